@@ -1,0 +1,12 @@
+pub mod Loop
+pub mod Along
+pub mod Truth
+pub mod Every
+pub mod Gather
+pub mod Store
+pub mod Mix
+pub mod Refusal
+pub mod Room
+pub mod Promise
+pub mod Limit
+pub mod Wide

@@ -1,0 +1,30 @@
+-- Document 01's limits, each named once for the definitions; src/lib.rt names the same numbers for the code, and each test's proof holds the two together.
+use Prim.Native.Nat.{ℕ}
+
+-- what a bracket model may hold
+abbrev pub particles : ℕ
+particles = 1024
+
+abbrev pub pairs : ℕ
+pairs = 4096
+
+abbrev pub envelope : ℕ
+envelope = 16384
+
+abbrev pub entries : ℕ
+entries = 16
+
+abbrev pub iterations : ℕ
+iterations = 4096
+
+-- from this sum of its counts on a tally stays
+abbrev pub tally : ℕ
+tally = 4000000000
+
+-- the bench program's text
+abbrev pub bytes : ℕ
+bytes = 65536
+
+-- `block_index`'s answer for a block that is not stored
+abbrev pub absent : ℕ
+absent = 4294967295

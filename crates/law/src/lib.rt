@@ -1,0 +1,29 @@
+// The laws that every crate cites are in specs/. The code has only document 01's limits and a widening cast.
+ghost use Rattle.law.specs.Wide.{Widened};
+
+// What a bracket model may hold.
+pub const PARTICLES: usize = 1024;
+
+pub const PAIRS: usize = 4096;
+
+pub const ENVELOPE: usize = 16384;
+
+pub const ENTRIES: usize = 16;
+
+pub const ITERATIONS: usize = 4096;
+
+// From this sum of its counts on a tally stays.
+pub const TALLY: u64 = 4000000000;
+
+// The bench program's text.
+pub const BYTES: usize = 65536;
+
+// The answer for a block that is not stored.
+pub const ABSENT: u32 = 4294967295;
+
+// A column, a row start or a place of a list as an index.
+pub fn wide(x: u32) -> usize
+    ensures { λ r. ⌜ Widened x r ⌝ }
+{
+    x as usize
+}

@@ -1,0 +1,116 @@
+// The operations. Each takes the numbers of its line and writes its answer to the buffer, or answers 0 where they are not as
+// many as it takes.
+ghost use Prim.Native.Nat.{_+_, _≤_, _<_};
+ghost use lib.ListN.{length};
+ghost use Rattle.replay.specs.Room.{room};
+use crate::print::Room;
+use crate::print::end;
+use crate::print::float;
+use crate::print::floats;
+use crate::print::unknown;
+use crate::word::gap;
+use crate::word::numbers;
+
+// The float of a pattern. from_bits is proved only for patterns that are no NaN's, so a NaN is made by a division.
+fn real(bits: u32) -> f32 {
+    if bits % 0x8000_0000 > 0x7f80_0000 {
+        return 0.0 / 0.0;
+    }
+    f32::from_bits(bits)
+}
+
+fn vector(w: &[u32], at: usize) -> [f32; 2]
+    requires { ⌜ at + 1 < length (now w) ⌝ }
+{
+    [real(w[at]), real(w[at + 1])]
+}
+
+fn block(w: &[u32], at: usize) -> [[f32; 2]; 2]
+    requires { ⌜ at + 3 < length (now w) ⌝ }
+{
+    [vector(w, at), vector(w, at + 2)]
+}
+
+fn root(w: &[u32], out: &mut Room) -> usize
+    ensures { λ r. ⌜ r ≤ room ⌝ }
+{
+    if w.len() != 1 {
+        return 0;
+    }
+    float(root::root(real(w[0])), out, 0)
+}
+
+fn dot(w: &[u32], out: &mut Room) -> usize
+    ensures { λ r. ⌜ r ≤ room ⌝ }
+{
+    if w.len() != 4 {
+        return 0;
+    }
+    float(plane::dot(vector(w, 0), vector(w, 2)), out, 0)
+}
+
+fn times(w: &[u32], out: &mut Room) -> usize
+    ensures { λ r. ⌜ r ≤ room ⌝ }
+{
+    if w.len() != 6 {
+        return 0;
+    }
+    floats(&plane::times(block(w, 0), vector(w, 4)), out, 0)
+}
+
+fn determinant(w: &[u32], out: &mut Room) -> usize
+    ensures { λ r. ⌜ r ≤ room ⌝ }
+{
+    if w.len() != 4 {
+        return 0;
+    }
+    float(plane::determinant(block(w, 0)), out, 0)
+}
+
+fn inverse(w: &[u32], out: &mut Room) -> usize
+    ensures { λ r. ⌜ r ≤ room ⌝ }
+{
+    if w.len() != 4 {
+        return 0;
+    }
+    let r = plane::inverse(block(w, 0));
+    let at = floats(&r[0], out, 0);
+    floats(&r[1], out, at)
+}
+
+// The operation of a name; 0 where no operation has it.
+fn operate(name: &[u8], w: &[u32], out: &mut Room) -> usize
+    ensures { λ r. ⌜ r ≤ room ⌝ }
+{
+    if check::same(name, b"root") {
+        return root(w, out);
+    }
+    if check::same(name, b"dot") {
+        return dot(w, out);
+    }
+    if check::same(name, b"times") {
+        return times(w, out);
+    }
+    if check::same(name, b"determinant") {
+        return determinant(w, out);
+    }
+    if check::same(name, b"inverse") {
+        return inverse(w, out);
+    }
+    0
+}
+
+pub fn answer(line: &[u8], words: &mut [u32], out: &mut Room) {
+    let k = gap(line, 0);
+    let count = numbers(line, k, words);
+    if count > words.len() {
+        unknown(out);
+        return;
+    }
+    let at = operate(&line[0..k], &words[0..count], out);
+    if at == 0 {
+        unknown(out);
+        return;
+    }
+    end(out, at);
+}

@@ -1,0 +1,15 @@
+//! The Rust solvers as the judge of the proved code, and a plain-text language of cases and answers.
+
+// The sources hold more than is judged.
+#![allow(dead_code)]
+
+pub mod alloc_prelude;
+pub mod answer;
+pub mod cases;
+pub mod draw;
+pub mod dynamics;
+pub mod math;
+pub mod planes;
+pub mod roots;
+mod soft_fem;
+pub mod text;

@@ -1,0 +1,39 @@
+//! `oracle answer`: case lines in, answer lines out. `oracle cases SEED`: the stored list of cases.
+
+use std::io::{self, BufWriter, Write};
+use std::process::ExitCode;
+
+fn main() -> ExitCode {
+    let words: Vec<String> = std::env::args().skip(1).collect();
+    let words: Vec<&str> = words.iter().map(String::as_str).collect();
+    let done = match words[..] {
+        ["answer"] => answer_all(),
+        ["cases", seed] => write_cases(seed),
+        _ => Err("usage: oracle answer | oracle cases SEED".into()),
+    };
+    match done {
+        Ok(()) => ExitCode::SUCCESS,
+        Err(problem) => {
+            eprintln!("oracle: {problem}");
+            ExitCode::from(2)
+        }
+    }
+}
+
+fn answer_all() -> Result<(), Box<dyn std::error::Error>> {
+    let mut out = BufWriter::new(io::stdout().lock());
+    for line in io::stdin().lines() {
+        let line = line?;
+        let answer = oracle::answer::answer(&line).ok_or(format!("not a case: {line}"))?;
+        writeln!(out, "{answer}")?;
+    }
+    Ok(out.flush()?)
+}
+
+fn write_cases(seed: &str) -> Result<(), Box<dyn std::error::Error>> {
+    let mut out = BufWriter::new(io::stdout().lock());
+    for line in oracle::cases::cases(seed.parse()?) {
+        writeln!(out, "{line}")?;
+    }
+    Ok(out.flush()?)
+}
