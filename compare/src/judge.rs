@@ -5,8 +5,9 @@ use oracle::text::{answer_line, case_line};
 use std::hint::black_box;
 use std::time::{Duration, Instant};
 
-/// How many differing cases are shown in full.
+/// How many differing cases are shown, and how much of a long line.
 const SHOWN: usize = 5;
+const LINE: usize = 4000;
 
 /// How often each side is timed; the best run counts.
 const RUNS: usize = 7;
@@ -20,29 +21,48 @@ pub fn same(a: &[f32], b: &[f32]) -> bool {
 /// One operation's cases so far.
 pub struct Judged {
     word: &'static str,
+    judge: &'static str,
     cases: usize,
     differences: usize,
 }
 
 impl Judged {
     pub fn new(word: &'static str) -> Self {
+        Self::by(word, "Rust")
+    }
+
+    pub fn by(word: &'static str, judge: &'static str) -> Self {
         Self {
             word,
+            judge,
             cases: 0,
             differences: 0,
         }
     }
 
     pub fn judge(&mut self, given: &[f32], proved: &[f32], rust: &[f32]) {
+        let word = self.word;
+        self.count(same(proved, rust), || {
+            [
+                case_line(word, given),
+                answer_line(proved),
+                answer_line(rust),
+            ]
+        });
+    }
+
+    /// One case more. If its answers differ, `lines` makes the case line and both sides' answers.
+    pub fn count(&mut self, same: bool, lines: impl FnOnce() -> [String; 3]) {
         self.cases += 1;
-        if same(proved, rust) {
+        if same {
             return;
         }
         self.differences += 1;
         if self.differences <= SHOWN {
-            println!("differs: {}", case_line(self.word, given));
-            println!("  proved {}", answer_line(proved));
-            println!("  Rust   {}", answer_line(rust));
+            let [case, proved, other] = lines();
+            println!("differs: {case:.LINE$}");
+            println!("  proved {proved:.LINE$}");
+            println!("  {:6} {other:.LINE$}", self.judge);
         }
     }
 
@@ -52,6 +72,7 @@ impl Judged {
             word,
             cases,
             differences,
+            ..
         } = self;
         println!("{word}: {cases} cases, {differences} differences{besides}");
         differences

@@ -1,12 +1,21 @@
 //! Runs the proved code and the Rust on the same cases in one process: differences, and times.
 
+#[macro_use]
+mod lend;
+
 mod buffers;
+mod calls;
+mod damage;
+mod doors;
+mod inside;
 mod judge;
 mod planes;
 mod proved;
 mod roots;
 mod rust;
+mod second;
 mod sides;
+mod times;
 
 use judge::compare;
 use oracle::draw::Draw;
@@ -27,7 +36,9 @@ fn main() -> ExitCode {
         rust: black_box(RUST),
     };
     let draw = &mut Draw::new(SEED);
-    let differences = root(sides, draw) + plane(sides, draw) + lent(sides, draw);
+    let numbers = root(sides, draw) + plane(sides, draw) + lent(sides, draw);
+    let differences = numbers + calls::compare(draw);
+    times::report(draw);
     if differences == 0 {
         ExitCode::SUCCESS
     } else {

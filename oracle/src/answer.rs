@@ -1,5 +1,8 @@
-//! What the judge answers: one line for each case line, one arm for each operation.
+//! What the judge answers: one line for each case line, one arm for each operation on plane numbers;
+//! the block matrix's are calls.
 
+use crate::blocks;
+use crate::call::Call;
 use crate::math::{Matrix, Vector};
 use crate::text::{answer_line, read_floats};
 
@@ -13,7 +16,7 @@ pub fn answer(line: &str) -> Option<String> {
         "times" => read_floats(tokens).map(|given| answer_line(&times(given))),
         "determinant" => read_floats(tokens).map(|given| answer_line(&[determinant(given)])),
         "inverse" => read_floats(tokens).map(|given| answer_line(&inverse(given))),
-        _ => None,
+        _ => Call::read(operation, tokens).map(|call| blocks::left(&call).line(&call)),
     }
 }
 

@@ -1,12 +1,18 @@
-//! The stored list of cases, as a function of a seed.
+//! The stored lists of cases, as functions of a seed.
 
+use crate::call::{Operation, OPERATIONS};
 use crate::draw::{Draw, SPECIAL};
 use crate::text::case_line;
-use crate::{planes, roots};
+use crate::{calls, graphs, planes, roots};
 
 const EACH: usize = 400;
 
-pub fn cases(seed: u64) -> Vec<String> {
+/// How many turns the block matrix's small graphs take, how many particles those have at most, and
+/// the same of larger ones.
+const SMALL: (usize, usize) = (42, 7);
+const LARGER: (usize, usize) = (3, 40);
+
+pub fn plane(seed: u64) -> Vec<String> {
     let draw = &mut Draw::new(seed);
     let mut lines: Vec<String> = root_inputs(draw)
         .into_iter()
@@ -37,4 +43,21 @@ fn root_inputs(draw: &mut Draw) -> Vec<f32> {
     inputs.extend((0..20).flat_map(|_| roots::with_neighbours(roots::near_middle(draw))));
     inputs.extend((0..120).map(|_| draw.bits()));
     inputs
+}
+
+pub fn pattern(seed: u64) -> Vec<String> {
+    let draw = &mut Draw::new(seed);
+    let mut lines = Vec::new();
+    for (turns, most) in [SMALL, LARGER] {
+        for turn in 0..turns {
+            for operation in OPERATIONS {
+                let graph = graphs::drawn(draw, turn, most);
+                lines.push(calls::accepted(draw, operation, &graph, turn).line());
+            }
+        }
+    }
+    for operation in [Operation::PatternFromPairs, Operation::BlockIndex] {
+        lines.push(calls::accepted(draw, operation, &graphs::chain(1024), 0).line());
+    }
+    lines
 }

@@ -5,11 +5,17 @@
 
 pub mod alloc_prelude;
 pub mod answer;
+pub mod blocks;
+pub mod call;
+pub mod calls;
 pub mod cases;
 pub mod draw;
 pub mod dynamics;
+pub mod graphs;
+pub mod lists;
 pub mod math;
 pub mod planes;
 pub mod roots;
 mod soft_fem;
 pub mod text;
+pub mod values;

@@ -1,4 +1,5 @@
-//! `oracle answer`: case lines in, answer lines out. `oracle cases SEED`: the stored list of cases.
+//! `oracle answer`: case lines in, answer lines out. `oracle cases plane SEED` and `oracle cases pattern
+//! SEED`: the stored lists of cases.
 
 use std::io::{self, BufWriter, Write};
 use std::process::ExitCode;
@@ -8,8 +9,11 @@ fn main() -> ExitCode {
     let words: Vec<&str> = words.iter().map(String::as_str).collect();
     let done = match words[..] {
         ["answer"] => answer_all(),
-        ["cases", seed] => write_cases(seed),
-        _ => Err("usage: oracle answer | oracle cases SEED".into()),
+        ["cases", "plane", seed] => write_cases(oracle::cases::plane, seed),
+        ["cases", "pattern", seed] => write_cases(oracle::cases::pattern, seed),
+        _ => {
+            Err("usage: oracle answer | oracle cases plane SEED | oracle cases pattern SEED".into())
+        }
     };
     match done {
         Ok(()) => ExitCode::SUCCESS,
@@ -30,9 +34,12 @@ fn answer_all() -> Result<(), Box<dyn std::error::Error>> {
     Ok(out.flush()?)
 }
 
-fn write_cases(seed: &str) -> Result<(), Box<dyn std::error::Error>> {
+fn write_cases(
+    cases: fn(u64) -> Vec<String>,
+    seed: &str,
+) -> Result<(), Box<dyn std::error::Error>> {
     let mut out = BufWriter::new(io::stdout().lock());
-    for line in oracle::cases::cases(seed.parse()?) {
+    for line in cases(seed.parse()?) {
         writeln!(out, "{line}")?;
     }
     Ok(out.flush()?)

@@ -6,6 +6,8 @@ ghost use Rattle.plane.specs.Lent.{flat};
 ghost use Rattle.root.specs.Sqrt.{sqrtOf};
 ghost use Rattle.boundary.specs.Handed.{handed, left};
 
+mod matrix;
+
 #[no_mangle]
 pub extern "C" fn bracket_root(x: f32) -> f32
     ensures { λ r. ⌜ r ≡ sqrtOf x ⌝ }

@@ -76,6 +76,26 @@ gather-same {A} f g a b h =
     (λ k q ih e. sym (gather-more f a k q) ∙ ap (λ (t : List A). t ++ f k) (ih (λ i l u. e i l (omega arith))) ∙ ap (λ (t : List A). gather g a k ++ t) (e k q (omega arith)) ∙ gather-more g a k q)
     b h
 
+-- ---- how long parts are together, by how long each is
+
+-- where every part but x is empty, and x is one long at most
+pub single : {A : Type 0} (g : ℕ → List A) (x : ℕ) → ((r : ℕ) → (r ≡ x → ⊥) → length (g r) ≡ 0) → length (g x) ≤ 1 → (r : ℕ) → upTo g r ≤ 1
+single g x none one r = from (λ r. (upTo g r ≤ 1) × (r ≤ x → upTo g r ≡ 0)) 0 (let z = upTo-none g in (omega arith, λ _. omega arith)) (λ k q h. step k h) r (omega arith) .0
+  where
+    step : (k : ℕ) → (upTo g k ≤ 1) × (k ≤ x → upTo g k ≡ 0) → (upTo g (k + 1) ≤ 1) × (k + 1 ≤ x → upTo g (k + 1) ≡ 0)
+    step k h =
+        let more = upTo-more g k in
+        ⊎-elim (λ l. let z = h .1 (omega arith) in let w = none k (λ e. omega arith) in (omega arith, λ _. omega arith))
+        (λ l. ⊎-elim (λ m. let w = none k (λ e. omega arith) in (omega (arith, h .0), λ i. absurd (omega arith)))
+        (λ m. let e : k ≡ x = omega arith in let z = h .1 (omega arith) in let w : length (g k) ≤ 1 = rw e one in (omega arith, λ i. absurd (omega arith)))
+        (below-or x k))
+        (below-or k x)
+
+-- where each part of f is no longer than g's and h's together
+pub upTo-sum : {A B C : Type 0} (f : ℕ → List A) (g : ℕ → List B) (h : ℕ → List C) → ((r : ℕ) → length (f r) ≤ length (g r) + length (h r)) → (r : ℕ) → upTo f r ≤ upTo g r + upTo h r
+upTo-sum f g h e r =
+    from (λ r. upTo f r ≤ upTo g r + upTo h r) 0 (omega (arith, upTo-none f)) (λ k q i. omega (arith, e k, upTo-more f k, upTo-more g k, upTo-more h k)) r (omega arith)
+
 -- ---- one number to a part: f 0, f 1, up to and without f n
 
 abbrev pub table : (ℕ → ℕ) → ℕ → List ℕ

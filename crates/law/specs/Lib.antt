@@ -3,6 +3,8 @@ pub mod Along
 pub mod Truth
 pub mod Every
 pub mod Gather
+pub mod Keep
+pub mod Find
 pub mod Store
 pub mod Mix
 pub mod Refusal

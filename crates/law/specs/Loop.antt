@@ -113,3 +113,11 @@ from P a h step b l = let e : a + (b - a) ≡ b = omega arith in rw e at (up (b 
 pub rising : (f : ℕ → ℕ) (n : ℕ) → ((r : ℕ) → r < n → f r ≤ f (r + 1)) → (a b : ℕ) → a ≤ b → b ≤ n → f a ≤ f b
 rising f n rise a b h g =
     from (λ k. k ≤ n → f a ≤ f k) a (λ _. le-refl (f a)) (λ k l ih m. le-trans (ih (omega arith)) (rise k (omega arith))) b h g
+
+-- what rises strictly from each number of a..b to the next is strictly in order there
+pub climbing : (f : ℕ → ℕ) (a b : ℕ) → ((k : ℕ) → a < k → k < b → f (k - 1) < f k) → (j k : ℕ) → a ≤ j → j < k → k < b → f j < f k
+climbing f a b climb j k h l g =
+    from (λ k. k < b → f j < f k) (j + 1) (λ m. step j h m) (λ i q ih m. let u = ih (omega arith) in let v = step i (omega arith) m in omega arith) k (omega arith) g
+  where
+    step : (i : ℕ) → a ≤ i → i + 1 < b → f i < f (i + 1)
+    step i q m = let e : (i + 1) - 1 ≡ i = omega arith in rw e at (climb (i + 1) (omega arith) m)

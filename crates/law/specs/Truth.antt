@@ -1,10 +1,10 @@
--- What a test's answer says: the sides of `&&` and `||`, the two ways of a branch, and that a number is below another or is not.
+-- What a test's answer says: the sides of `&&` and `||`, the two ways of a branch, and that a number is below another or is not, equals it or does not.
 use Prim.Native.Nat.{ℕ, _≤_, _<_}
 use mathlib.Core.Path.{_≡_, refl}
 use mathlib.Core.Bool.{Bool, true, false, not, _&&_, _||_}
 use mathlib.Core.Logic.{_⊎_, inl, inr}
-use lib.Dec.{ltb}
-use borrow.Author.Tests.{ltb-true, ltb-false, not-true, not-false}
+use lib.Dec.{ltb, eqb}
+use borrow.Author.Tests.{ltb-true, ltb-false, eqb-true, eqb-false, not-true, not-false}
 
 -- both sides of an `&&` that holds
 pub both : (a b : Bool) → (a && b) ≡ true → (a ≡ true) × (b ≡ true)
@@ -19,6 +19,9 @@ pub either : (a b : Bool) → (a || b) ≡ true → (a ≡ true) ⊎ (b ≡ true
 either true b h = inl refl
 either false b h = inr h
 
+pub or-left : (a b : Bool) → a ≡ true → (a || b) ≡ true
+or-left a b h = rw h
+
 pub or-right : (a b : Bool) → b ≡ true → (a || b) ≡ true
 or-right true b h = refl
 or-right false b h = h
@@ -30,9 +33,21 @@ refused x t e h = cc (not-true x h)
 pub passed : (x t : Bool) → x ≡ t → not x ≡ false → t ≡ true
 passed x t e h = cc (not-false x h)
 
+-- a test that can't hold
+pub untrue : (t : Bool) → (t ≡ true → ⊥) → t ≡ false
+untrue true h = absurd (h refl)
+untrue false h = refl
+
 pub below-or : (j n : ℕ) → (j < n) ⊎ (n ≤ j)
 below-or j n = pick (ltb j n) refl
   where
     pick : (t : Bool) → ltb j n ≡ t → (j < n) ⊎ (n ≤ j)
     pick true e = inl (ltb-true j n e)
     pick false e = inr (ltb-false j n e)
+
+pub same-or : (j n : ℕ) → (j ≡ n) ⊎ (j ≡ n → ⊥)
+same-or j n = pick (eqb j n) refl
+  where
+    pick : (t : Bool) → eqb j n ≡ t → (j ≡ n) ⊎ (j ≡ n → ⊥)
+    pick true e = inl (eqb-true j n e)
+    pick false e = inr (eqb-false j n e)

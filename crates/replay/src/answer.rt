@@ -2,22 +2,15 @@
 // many as it takes.
 ghost use Prim.Native.Nat.{_+_, _≤_, _<_};
 ghost use lib.ListN.{length};
-ghost use Rattle.replay.specs.Room.{room};
-use crate::print::Room;
-use crate::print::end;
-use crate::print::float;
-use crate::print::floats;
-use crate::print::unknown;
-use crate::word::gap;
-use crate::word::numbers;
-
-// The float of a pattern. from_bits is proved only for patterns that are no NaN's, so a NaN is made by a division.
-fn real(bits: u32) -> f32 {
-    if bits % 0x8000_0000 > 0x7f80_0000 {
-        return 0.0 / 0.0;
-    }
-    f32::from_bits(bits)
-}
+ghost use Rattle.tokens.specs.Room.{room};
+use tokens::print::Room;
+use tokens::print::end;
+use tokens::print::float;
+use tokens::print::floats;
+use tokens::print::unknown;
+use tokens::word::gap;
+use tokens::word::numbers;
+use tokens::word::real;
 
 fn vector(w: &[u32], at: usize) -> [f32; 2]
     requires { ⌜ at + 1 < length (now w) ⌝ }
@@ -97,7 +90,7 @@ fn operate(name: &[u8], w: &[u32], out: &mut Room) -> usize
     if check::same(name, b"inverse") {
         return inverse(w, out);
     }
-    0
+    replay_matrix::operation::operate(name, w, out)
 }
 
 pub fn answer(line: &[u8], words: &mut [u32], out: &mut Room) {

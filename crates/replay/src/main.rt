@@ -1,8 +1,6 @@
 // Replays stored cases: each line of each file that an argument names is answered by a line on standard output.
 mod answer;
 mod line;
-mod print;
-mod word;
 
 // The buffers stand here alone and are lent once: a large local array makes each statement of its function dear to check.
 // A number takes two bytes at least, so the words of a line always have room.
@@ -10,7 +8,7 @@ fn run(fd: i32) {
     let mut chunk = [0u8; 4096];
     let mut text = [0u8; 65536];
     let mut words = [0u32; 32768];
-    let mut out = [0u8; print::ROOM];
+    let mut out = [0u8; tokens::print::ROOM];
     line::replay(fd, &mut chunk, &mut text, &mut words, &mut out);
 }
 

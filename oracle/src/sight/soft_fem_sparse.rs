@@ -1,7 +1,22 @@
 
-// Not of the source: oracle/build puts these lines behind it, to show its private fields.
+// Not of the source: oracle/build puts these lines behind it, to show its private fields and to make a
+// matrix of given ones.
 
 impl BlockMatrix {
+    pub(crate) fn from_lists(
+        row_offsets: Vec<u32>,
+        cols: Vec<u32>,
+        diagonal: Vec<u32>,
+        blocks: Vec<Matrix>,
+    ) -> Self {
+        Self {
+            row_offsets,
+            cols,
+            diagonal,
+            blocks,
+        }
+    }
+
     pub(crate) fn see_row_offsets(&self) -> &[u32] {
         &self.row_offsets
     }

@@ -1,0 +1,102 @@
+//! The block matrix's calls: accepted ones held against the Rust, damaged ones against the second
+//! program.
+
+use crate::damage::damage;
+use crate::doors;
+use crate::judge::Judged;
+use crate::second;
+use oracle::blocks;
+use oracle::call::{Call, Items, Left, Operation, OPERATIONS};
+use oracle::calls::accepted;
+use oracle::draw::Draw;
+use oracle::graphs;
+
+/// How many turns graphs of at most so many particles take, for each operation.
+const SIZES: [(usize, usize); 3] = [(3000, 10), (200, 100), (20, 1024)];
+
+/// Damaged calls of each operation, over graphs of at most so many particles. Every tenth is left
+/// whole, so that the second program and the Rust are held against each other too.
+const DAMAGED: usize = 1500;
+const DAMAGED_SIZE: usize = 6;
+const WHOLE_EVERY: usize = 10;
+
+pub fn compare(draw: &mut Draw) -> usize {
+    let whole: usize = OPERATIONS
+        .into_iter()
+        .map(|it| compare_whole(draw, it))
+        .sum();
+    whole + compare_damaged(draw)
+}
+
+/// Bit for bit, but any NaN for any NaN.
+fn same(operation: Operation, a: &Left, b: &Left) -> bool {
+    let nan = |bits: u32| f32::from_bits(bits).is_nan();
+    let kinds = &operation.lists()[operation.first_changed()..];
+    let same_lists = kinds.iter().enumerate().all(|(at, &kind)| {
+        let (a, b) = (&a.lists[at], &b.lists[at]);
+        let float = kind == Items::Float;
+        let one = |(&x, &y): (&u32, &u32)| x == y || float && nan(x) && nan(y);
+        a.len() == b.len() && a.iter().zip(b).all(one)
+    });
+    a.refused == b.refused && a.number == b.number && same_lists
+}
+
+fn compare_whole(draw: &mut Draw, operation: Operation) -> usize {
+    let mut judged = Judged::new(operation.word());
+    for (turns, most) in SIZES {
+        for turn in 0..turns {
+            let graph = graphs::drawn(draw, turn, most);
+            let call = accepted(draw, operation, &graph, turn);
+            let (proved, rust) = (doors::left(&call), blocks::left(&call));
+            judged.count(same(operation, &proved, &rust), || {
+                [call.line(), proved.line(&call), rust.line(&call)]
+            });
+        }
+    }
+    judged.close(", accepted, every list to its end")
+}
+
+fn damaged(draw: &mut Draw, operation: Operation, turn: usize) -> Call {
+    let graph = graphs::drawn(draw, turn, DAMAGED_SIZE);
+    let mut call = accepted(draw, operation, &graph, turn);
+    if turn % WHOLE_EVERY > 0 {
+        damage(draw, &mut call);
+    }
+    call
+}
+
+fn compare_damaged(draw: &mut Draw) -> usize {
+    let calls: Vec<Call> = OPERATIONS
+        .into_iter()
+        .flat_map(|operation| (0..DAMAGED).map(move |turn| (operation, turn)))
+        .map(|(operation, turn)| damaged(draw, operation, turn))
+        .collect();
+    let answers = match second::answers(calls.iter().map(Call::line).collect()) {
+        Ok(answers) => answers,
+        Err(problem) => {
+            println!(
+                "damaged calls: not compared, since the second program did not run ({problem})"
+            );
+            return 0;
+        }
+    };
+    assert_eq!(
+        answers.len(),
+        calls.len(),
+        "the second program left calls unanswered"
+    );
+    let mut judged = Judged::by("damaged calls", "second");
+    let mut refused = [0; 6];
+    for (call, answer) in calls.iter().zip(answers) {
+        let left = doors::left(call);
+        refused[usize::from(left.refused)] += 1;
+        let line = left.line(call);
+        judged.count(line == answer, || {
+            [call.line(), line.clone(), answer.clone()]
+        });
+    }
+    let [done, one, two, three, four, five] = refused;
+    judged.close(&format!(
+        " from the second program: {done} done; refused by 1: {one}, 2: {two}, 3: {three}, 4: {four}, 5: {five}"
+    ))
+}

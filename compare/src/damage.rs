@@ -1,0 +1,96 @@
+//! Calls with faults. Some faults do no harm: the second program says which.
+
+use oracle::call::Call;
+use oracle::draw::Draw;
+
+fn below(draw: &mut Draw, limit: usize) -> usize {
+    draw.below(limit as u32) as usize
+}
+
+/// One to three faults. Items are changed before lists are cut, so that there are items to change.
+pub fn damage(draw: &mut Draw, call: &mut Call) {
+    let needs = call.needs();
+    for _ in 0..draw.below(3) {
+        match draw.below(4) {
+            0 => drop_block(draw, call),
+            _ => change_item(draw, call, &needs),
+        }
+    }
+    match draw.below(4) {
+        0 => change_number(draw, call),
+        1 => cut(draw, call, &needs),
+        2 => {
+            change_number(draw, call);
+            cut(draw, call, &needs);
+        }
+        _ => change_item(draw, call, &needs),
+    }
+}
+
+/// An item of the call's needed part becomes its neighbour, another item, or a number at a limit.
+fn change_item(draw: &mut Draw, call: &mut Call, needs: &[usize]) {
+    let at = below(draw, call.lists.len().min(4));
+    let n = call.n() as u32;
+    let length = needs[at].min(call.lists[at].len());
+    if length == 0 {
+        return;
+    }
+    let (place, other) = (below(draw, length), below(draw, length));
+    let list = &mut call.lists[at];
+    list[place] = match draw.below(8) {
+        0 | 1 => list[place].wrapping_add(1),
+        2 | 3 => list[place].wrapping_sub(1),
+        4 => list[other],
+        5 => n,
+        6 => u32::MAX,
+        _ => 0,
+    };
+}
+
+/// The pattern loses a block and stays in order, so that a mirror or a diagonal is missing.
+fn drop_block(draw: &mut Draw, call: &mut Call) {
+    let count = call.lists[1].len();
+    if call.operation.builds() || count == 0 {
+        return;
+    }
+    let slot = below(draw, count);
+    let col = call.lists[1].remove(slot);
+    call.lists[1].push(col);
+    for at in [0, 2] {
+        let places = call.lists[at].iter_mut();
+        places
+            .filter(|place| **place as usize > slot && **place != u32::MAX)
+            .for_each(|place| *place -= 1);
+    }
+}
+
+/// A number moves to a limit, just past it, or far past it.
+fn change_number(draw: &mut Draw, call: &mut Call) {
+    let at = below(draw, call.numbers.len().min(2));
+    let n = call.n();
+    call.numbers[at] = match draw.below(10) {
+        0 => n + 1,
+        1 => n.saturating_sub(1),
+        2 => n,
+        3 => 1024,
+        4 => 1025,
+        5 => 4096,
+        6 => 4097,
+        7 => u32::MAX as usize,
+        8 => usize::MAX,
+        _ => call.numbers[at] + 1,
+    };
+}
+
+/// A list ends one place before its need, or anywhere before.
+fn cut(draw: &mut Draw, call: &mut Call, needs: &[usize]) {
+    let at = below(draw, call.lists.len());
+    if needs[at] == 0 {
+        return;
+    }
+    let length = match draw.below(3) {
+        0 => below(draw, needs[at]),
+        _ => needs[at] - 1,
+    };
+    call.lists[at].truncate(length);
+}

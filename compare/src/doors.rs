@@ -1,0 +1,158 @@
+//! The proved doors of the block matrix: the C functions of the crate `boundary`. A list is a pointer
+//! and a length.
+
+use oracle::call::Operation::*;
+use oracle::call::{Call, Left};
+
+extern "C" {
+    fn bracket_from_pairs(
+        n: usize,
+        count: usize,
+        pairs: *const u32,
+        pairs_len: usize,
+        row_offsets: *mut u32,
+        row_offsets_len: usize,
+        cols: *mut u32,
+        cols_len: usize,
+        diagonal: *mut u32,
+        diagonal_len: usize,
+        blocks: *mut f32,
+        blocks_len: usize,
+        work: *mut u32,
+        work_len: usize,
+    ) -> u8;
+    fn bracket_pattern_from_pairs(
+        n: usize,
+        count: usize,
+        pairs: *const u32,
+        pairs_len: usize,
+        row_offsets: *mut u32,
+        row_offsets_len: usize,
+        cols: *mut u32,
+        cols_len: usize,
+        diagonal: *mut u32,
+        diagonal_len: usize,
+        work: *mut u32,
+        work_len: usize,
+    ) -> u8;
+    fn bracket_block_index(
+        n: usize,
+        row_offsets: *const u32,
+        row_offsets_len: usize,
+        cols: *const u32,
+        cols_len: usize,
+        diagonal: *const u32,
+        diagonal_len: usize,
+        row: usize,
+        col: u32,
+        slot: *mut u32,
+    ) -> u8;
+    fn bracket_diagonal_index(
+        n: usize,
+        row_offsets: *const u32,
+        row_offsets_len: usize,
+        cols: *const u32,
+        cols_len: usize,
+        diagonal: *const u32,
+        diagonal_len: usize,
+        row: usize,
+        slot: *mut u32,
+    ) -> u8;
+    fn bracket_clear_values(
+        n: usize,
+        row_offsets: *const u32,
+        row_offsets_len: usize,
+        cols: *const u32,
+        cols_len: usize,
+        diagonal: *const u32,
+        diagonal_len: usize,
+        blocks: *mut f32,
+        blocks_len: usize,
+    ) -> u8;
+    fn bracket_mul(
+        n: usize,
+        row_offsets: *const u32,
+        row_offsets_len: usize,
+        cols: *const u32,
+        cols_len: usize,
+        diagonal: *const u32,
+        diagonal_len: usize,
+        blocks: *const f32,
+        blocks_len: usize,
+        x: *const f32,
+        x_len: usize,
+        out: *mut f32,
+        out_len: usize,
+    ) -> u8;
+    fn bracket_make_dirichlet(
+        n: usize,
+        row_offsets: *const u32,
+        row_offsets_len: usize,
+        cols: *const u32,
+        cols_len: usize,
+        diagonal: *const u32,
+        diagonal_len: usize,
+        row: usize,
+        blocks: *mut f32,
+        blocks_len: usize,
+    ) -> u8;
+}
+
+/// What a refused call must leave in its slot.
+const UNTOUCHED: u32 = 0x5a5a_5a5a;
+
+/// Makes the call on its own lists, and hands back the refusal's number and the slot that it found.
+pub fn made(call: &mut Call) -> (u8, u32) {
+    let mut slot = UNTOUCHED;
+    // Each function is handed lists of its own parameters' kinds.
+    let refused = unsafe {
+        match (call.operation, &call.numbers[..], &mut call.lists[..]) {
+            (FromPairs, &[n, count], [pairs, row_offsets, cols, diagonal, blocks, work]) => {
+                lend!(bracket_from_pairs(n, count; pairs, row_offsets, cols, diagonal, blocks, work;;))
+            }
+            (PatternFromPairs, &[n, count], [pairs, row_offsets, cols, diagonal, work]) => {
+                lend!(bracket_pattern_from_pairs(n, count; pairs, row_offsets, cols, diagonal, work;;))
+            }
+            (BlockIndex, &[n, row, col], [row_offsets, cols, diagonal]) => {
+                lend!(bracket_block_index(n; row_offsets, cols, diagonal; row, col as u32, &mut slot;))
+            }
+            (DiagonalIndex, &[n, row], [row_offsets, cols, diagonal]) => {
+                lend!(bracket_diagonal_index(n; row_offsets, cols, diagonal; row, &mut slot;))
+            }
+            (ClearValues, &[n], [row_offsets, cols, diagonal, blocks]) => {
+                lend!(bracket_clear_values(n; row_offsets, cols, diagonal, blocks;;))
+            }
+            (Mul, &[n], [row_offsets, cols, diagonal, blocks, x, out]) => {
+                lend!(bracket_mul(n; row_offsets, cols, diagonal, blocks, x, out;;))
+            }
+            (MakeDirichlet, &[n, row], [row_offsets, cols, diagonal, blocks]) => {
+                lend!(bracket_make_dirichlet(n; row_offsets, cols, diagonal; row; blocks))
+            }
+            _ => unreachable!("a call has the numbers and lists of its operation"),
+        }
+    };
+    (refused, slot)
+}
+
+/// What the proved call leaves. A list that it is only shown must stay as it is.
+pub fn left(call: &Call) -> Left {
+    let mut after = call.clone();
+    let (refused, slot) = made(&mut after);
+    let first_changed = call.operation.first_changed();
+    assert!(
+        after.lists[..first_changed] == call.lists[..first_changed],
+        "a list that is only read was written: {}",
+        call.line()
+    );
+    let number = match call.operation {
+        BlockIndex | DiagonalIndex => Some(slot as usize),
+        FromPairs | PatternFromPairs if refused == 0 => Some(after.lists[1][call.n()] as usize),
+        _ => None,
+    };
+    Left {
+        refused,
+        // A slot that a refused call wrote is shown, and differs.
+        number: number.filter(|_| refused == 0 || slot != UNTOUCHED),
+        lists: after.lists.split_off(first_changed),
+    }
+}

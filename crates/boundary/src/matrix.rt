@@ -1,0 +1,155 @@
+// The block matrix's calls. Each answers the refusal's number, or 0; the lists are left as the call's own promise says.
+use pattern::Built;
+use pattern::Found;
+use pattern::Ran;
+ghost use mathlib.Core.Path.{_≡_};
+ghost use Rattle.law.specs.Promise.{outcome};
+ghost use Rattle.pattern.specs.Indexing as indexing;
+ghost use Rattle.pattern.specs.Clearing as clearing;
+ghost use Rattle.pattern.specs.Multiplying as multiplying;
+ghost use Rattle.pattern.specs.Pinning as pinning;
+ghost use Rattle.pattern.specs.Building as building;
+ghost use Rattle.pattern.specs.FromPairs as frompairs;
+ghost use Rattle.boundary.specs.Numbers.{builtNumber, ranNumber, foundNumber, foundSlot, Numbered};
+
+fn built_number(b: Built) -> u8
+    ensures { λ r. ⌜ r ≡ builtNumber b ⌝ }
+{
+    match b {
+        Built::Refused(k) => k,
+        Built::Done(_) => 0,
+    }
+}
+
+fn ran_number(a: Ran) -> u8
+    ensures { λ r. ⌜ r ≡ ranNumber a ⌝ }
+{
+    match a {
+        Ran::Refused(k) => k,
+        Ran::Done => 0,
+    }
+}
+
+fn found_number(f: Found) -> u8
+    ensures { λ r. ⌜ r ≡ foundNumber f ⌝ }
+{
+    match f {
+        Found::Refused(k) => k,
+        Found::Slot(_) => 0,
+    }
+}
+
+fn found_slot(f: Found, old: u32) -> u32
+    ensures { λ r. ⌜ r ≡ foundSlot f old ⌝ }
+{
+    match f {
+        Found::Refused(_) => old,
+        Found::Slot(s) => s,
+    }
+}
+
+#[no_mangle]
+pub extern "C" fn bracket_from_pairs(
+    n: usize,
+    count: usize,
+    pairs: &[u32],
+    row_offsets: &mut [u32],
+    cols: &mut [u32],
+    diagonal: &mut [u32],
+    blocks: &mut [f32],
+    work: &mut [u32],
+) -> u8
+    ensures { λ r. ⌜ Numbered frompairs.door (λ o. o .pattern .answer) builtNumber (frompairs.given (building.given n count (now (pairs .entry)) (now («row_offsets» .entry)) (now (cols .entry)) (now (diagonal .entry)) (now (work .entry))) (now (blocks .entry))) r (λ a. frompairs.left (building.left a (now («row_offsets» .exit)) (now (cols .exit)) (now (diagonal .exit)) (now (work .exit))) (now (blocks .exit))) ⌝ }
+{
+    built_number(pattern::from_pairs(n, count, pairs, row_offsets, cols, diagonal, blocks, work))
+}
+
+#[no_mangle]
+pub extern "C" fn bracket_pattern_from_pairs(
+    n: usize,
+    count: usize,
+    pairs: &[u32],
+    row_offsets: &mut [u32],
+    cols: &mut [u32],
+    diagonal: &mut [u32],
+    work: &mut [u32],
+) -> u8
+    ensures { λ r. ⌜ Numbered building.door (λ o. o .answer) builtNumber (building.given n count (now (pairs .entry)) (now («row_offsets» .entry)) (now (cols .entry)) (now (diagonal .entry)) (now (work .entry))) r (λ a. building.left a (now («row_offsets» .exit)) (now (cols .exit)) (now (diagonal .exit)) (now (work .exit))) ⌝ }
+{
+    built_number(pattern::pattern_from_pairs(n, count, pairs, row_offsets, cols, diagonal, work))
+}
+
+#[no_mangle]
+pub extern "C" fn bracket_block_index(
+    n: usize,
+    row_offsets: &[u32],
+    cols: &[u32],
+    diagonal: &[u32],
+    row: usize,
+    col: u32,
+    slot: &mut u32,
+) -> u8
+    ensures { λ r. ⌜ (r ≡ foundNumber (outcome (indexing.blockDoor col) (indexing.given n (now («row_offsets» .entry)) (now (cols .entry)) (now (diagonal .entry)) row))) × (now (slot .exit) ≡ foundSlot (outcome (indexing.blockDoor col) (indexing.given n (now («row_offsets» .entry)) (now (cols .entry)) (now (diagonal .entry)) row)) (now (slot .entry))) ⌝ }
+{
+    let f = pattern::block_index(n, row_offsets, cols, diagonal, row, col);
+    *slot = found_slot(f, *slot);
+    found_number(f)
+}
+
+#[no_mangle]
+pub extern "C" fn bracket_diagonal_index(
+    n: usize,
+    row_offsets: &[u32],
+    cols: &[u32],
+    diagonal: &[u32],
+    row: usize,
+    slot: &mut u32,
+) -> u8
+    ensures { λ r. ⌜ (r ≡ foundNumber (outcome indexing.diagonalDoor (indexing.given n (now («row_offsets» .entry)) (now (cols .entry)) (now (diagonal .entry)) row))) × (now (slot .exit) ≡ foundSlot (outcome indexing.diagonalDoor (indexing.given n (now («row_offsets» .entry)) (now (cols .entry)) (now (diagonal .entry)) row)) (now (slot .entry))) ⌝ }
+{
+    let f = pattern::diagonal_index(n, row_offsets, cols, diagonal, row);
+    *slot = found_slot(f, *slot);
+    found_number(f)
+}
+
+#[no_mangle]
+pub extern "C" fn bracket_clear_values(
+    n: usize,
+    row_offsets: &[u32],
+    cols: &[u32],
+    diagonal: &[u32],
+    blocks: &mut [f32],
+) -> u8
+    ensures { λ r. ⌜ Numbered clearing.door (λ o. o .answer) ranNumber (clearing.given n (now («row_offsets» .entry)) (now (cols .entry)) (now (diagonal .entry)) (now (blocks .entry))) r (λ a. clearing.left a (now (blocks .exit))) ⌝ }
+{
+    ran_number(pattern::clear_values(n, row_offsets, cols, diagonal, blocks))
+}
+
+#[no_mangle]
+pub extern "C" fn bracket_mul(
+    n: usize,
+    row_offsets: &[u32],
+    cols: &[u32],
+    diagonal: &[u32],
+    blocks: &[f32],
+    x: &[f32],
+    out: &mut [f32],
+) -> u8
+    ensures { λ r. ⌜ Numbered multiplying.door (λ o. o .answer) ranNumber (multiplying.given n (now («row_offsets» .entry)) (now (cols .entry)) (now (diagonal .entry)) (now (blocks .entry)) (now (x .entry)) (now (out .entry))) r (λ a. multiplying.left a (now (out .exit))) ⌝ }
+{
+    ran_number(pattern::mul(n, row_offsets, cols, diagonal, blocks, x, out))
+}
+
+#[no_mangle]
+pub extern "C" fn bracket_make_dirichlet(
+    n: usize,
+    row_offsets: &[u32],
+    cols: &[u32],
+    diagonal: &[u32],
+    row: usize,
+    blocks: &mut [f32],
+) -> u8
+    ensures { λ r. ⌜ Numbered pinning.door (λ o. o .answer) ranNumber (pinning.given n (now («row_offsets» .entry)) (now (cols .entry)) (now (diagonal .entry)) row (now (blocks .entry))) r (λ a. pinning.left a (now (blocks .exit))) ⌝ }
+{
+    ran_number(pattern::make_dirichlet(n, row_offsets, cols, diagonal, row, blocks))
+}

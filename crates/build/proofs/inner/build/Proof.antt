@@ -1,0 +1,60 @@
+-- `build::inner::build` meets its contract. Assumes nothing.
+use mathlib.Core.Path.{ap, _∙_}
+use Prim.Native.Nat.{ℕ}
+use native.Mathlib.Omega.{arith}
+use lib.ListN.{replicate}
+use Rattle.build.specs.Built.{given, unfilled, built}
+use borrow.Author.Needs.{needs}
+use Rattle.build.proofs.inner.build.Statement.{statement}
+use Rattle.build.proofs.inner.build.Tie as tie
+
+list-rows-requires : tie.Need-list-rows-requires
+list-rows-requires c κs = search needs
+
+zero-requires : tie.Need-zero-requires
+zero-requires c κs = search needs
+
+fill-rows-requires : tie.Need-fill-rows-requires
+fill-rows-requires c κs =
+    let st = c .before .before .before .before .before .before .before .before .before .before .before .before .before .before .before .before .before .before .before .before .before .before .before .before .before .before in
+    let l = c .before .before .before .before .before .before .before .before .before .before .before .before .before .before .before .before .list-rows in
+    let z = c .before .before .before .before .before .before .zero in
+    (given _ _ _ _ _ _ _ (st .pre), unfilled _ _ _ _ _ _ _ (st .pre) _ _ _ _ (omega (arith, z .kept, l .kept)) (omega (arith, z .kept, l .kept)) (omega (arith, z .kept, l .kept)) (omega (arith, z .kept, l .kept)) (l .ensures))
+
+zero-requires-2 : tie.Need-zero-requires-2
+zero-requires-2 c κs = search needs
+
+same-length : tie.Need-same-length
+same-length c = search needs
+
+same-length-2 : tie.Need-same-length-2
+same-length-2 c = search needs
+
+same-length-3 : tie.Need-same-length-3
+same-length-3 c = search needs
+
+same-length-4 : tie.Need-same-length-4
+same-length-4 c = search needs
+
+returns : tie.Need-returns
+returns c =
+    let st = c .before .before .before .before .before .before .before .before .before .before .before .before .before .before .before .before .before .before .before .before .before .before .before .before .before .before .before .before .before .before .before .before .before .before .before .before .before in
+    let l = c .before .before .before .before .before .before .before .before .before .before .before .before .before .before .before .before .before .before .before .before .before .before .before .before .before .before .before .list-rows in
+    let z = c .before .before .before .before .before .before .before .before .before .before .before .before .before .before .before .before .before .zero in
+    let f = c .before .before .before .before .before .before .before .before .before .before .fill-rows in
+    let y = c .before .before .zero2 in
+    built _ _ _ _ _ _ _ (st .pre) _ _ _ _ _ _ (z .ensures ∙ ap (λ (m : ℕ). replicate m 0) (l .kept .1 .1 .1 .1 .0)) (f .ensures) (y .ensures ∙ ap (λ (m : ℕ). replicate m 0) (l .kept .1 .1 .1 .1 .1 .1 .0))
+
+pub build-spec : {M : Type 1} → statement M
+build-spec =
+    tie.close
+    (tie.spec
+    list-rows-requires
+    zero-requires
+    fill-rows-requires
+    zero-requires-2
+    same-length
+    same-length-2
+    same-length-3
+    same-length-4
+    returns)

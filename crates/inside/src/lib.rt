@@ -1,0 +1,2 @@
+// For measuring only: see measured.rt.
+mod measured;

@@ -1,0 +1,28 @@
+-- `pattern::block_index` meets its contract. Assumes nothing.
+use mathlib.Core.Path.{sym, ap, _∙_}
+use Rattle.law.specs.Promise.{refuses, accepts}
+use Rattle.shape.specs.Index.{line-of}
+use Rattle.pattern.specs.declared.Found.the-variants.{Slot}
+use Rattle.pattern.specs.Indexing as indexing
+use borrow.Author.Needs.{needs}
+use Rattle.pattern.proofs.block_index.Statement.{statement}
+use Rattle.pattern.proofs.block_index.Tie as tie
+
+row-requires : tie.Need-row-requires
+row-requires c κs = search needs
+
+returns : tie.Need-returns
+returns c = refuses (indexing.blockDoor _) _ _ (c .before .row .ensures) (c .if1 .taken)
+
+block-index-requires : tie.Need-block-index-requires
+block-index-requires c κs =
+    let r = indexing.ready _ (sym (c .before .row .ensures) ∙ c .if1 .left) in
+    line-of _ _ _ _ (r .pattern) _ (r .row)
+
+returns-2 : tie.Need-returns-2
+returns-2 c =
+    let k = c .before in
+    accepts (indexing.blockDoor _) _ _ (k .before .row .ensures) (k .if1 .left) _ (ap Slot (c .block-index .ensures))
+
+pub block-index-spec : {M : Type 1} → statement M
+block-index-spec = tie.close (tie.spec row-requires returns block-index-requires returns-2)

@@ -1,0 +1,7 @@
+pub mod Given
+pub mod Indexing
+pub mod Clearing
+pub mod Multiplying
+pub mod Pinning
+pub mod Building
+pub mod FromPairs

@@ -1,0 +1,246 @@
+// The numbers that calls are refused by. Tests run in phases, so that none reads past a list's end.
+ghost use mathlib.Core.Path.{_≡_};
+ghost use mathlib.Core.Bool.{true};
+ghost use Prim.Native.Nat.{_+_, _*_, _≤_, _<_};
+ghost use lib.ListN.{length};
+ghost use Rattle.law.specs.Every.{every};
+ghost use Rattle.law.specs.Limit.{particles, pairs as pairLimit};
+ghost use Rattle.law.specs.Room.{enough};
+ghost use Rattle.law.specs.Refusal.{verdict};
+ghost use Rattle.shape.specs.Rows.{at, Held};
+ghost use Rattle.build.specs.Pairs.{pairOk, pairOkAt};
+ghost use Rattle.pattern.specs.Given.{patternRoom, blocksRoom, formed};
+ghost use Rattle.pattern.specs.Indexing as indexing;
+ghost use Rattle.pattern.specs.Clearing as clearing;
+ghost use Rattle.pattern.specs.Multiplying as multiplying;
+ghost use Rattle.pattern.specs.Pinning as pinning;
+ghost use Rattle.pattern.specs.Building as building;
+ghost use Rattle.pattern.specs.FromPairs as frompairs;
+
+// Whether the pattern's lists are as long as its numbers say.
+pub fn pattern_room(n: usize, row_offsets: &[u32], cols: &[u32], diagonal: &[u32]) -> bool
+    requires { ⌜ n ≤ particles ⌝ }
+    ensures { λ r. ⌜ r ≡ enough true (patternRoom n (now («row_offsets» .entry)) (now (cols .entry)) (now (diagonal .entry))) ⌝ }
+{
+    if row_offsets.len() < n + 1 {
+        return false;
+    }
+    (law::wide(row_offsets[n]) <= cols.len()) & (n <= diagonal.len())
+}
+
+// Whether the pattern is well formed, once its lists have room.
+pub fn pattern_formed(n: usize, row_offsets: &[u32], cols: &[u32], diagonal: &[u32]) -> bool
+    requires { ⌜ Held n (at (now «row_offsets») n) (now «row_offsets») (now cols) (now diagonal) ⌝ }
+    ensures { λ r. ⌜ r ≡ formed n (now («row_offsets» .entry)) (now (cols .entry)) (now (diagonal .entry)) ⌝ }
+{
+    let m = law::wide(row_offsets[n]);
+    shape::formed::well_formed(n, m, row_offsets, cols, diagonal)
+}
+
+// For a call on one row of a pattern.
+pub fn row(n: usize, row_offsets: &[u32], cols: &[u32], diagonal: &[u32], row: usize) -> u8
+    ensures { λ r. ⌜ r ≡ verdict (indexing.refusals (indexing.given n (now («row_offsets» .entry)) (now (cols .entry)) (now (diagonal .entry)) row)) ⌝ }
+{
+    if law::PARTICLES < n {
+        return 1;
+    }
+    if !pattern_room(n, row_offsets, cols, diagonal) {
+        return 3;
+    }
+    if n <= row {
+        return 4;
+    }
+    if !pattern_formed(n, row_offsets, cols, diagonal) {
+        return 5;
+    }
+    0
+}
+
+// Whether the blocks' values are as many as the pattern says.
+pub fn blocks_room(n: usize, row_offsets: &[u32], blocks: &[f32]) -> bool
+    requires { ⌜ n < length (now «row_offsets») ⌝ }
+    ensures { λ r. ⌜ r ≡ enough true (blocksRoom n (now («row_offsets» .entry)) (now (blocks .entry))) ⌝ }
+{
+    4 * law::wide(row_offsets[n]) <= blocks.len()
+}
+
+pub fn clearing(n: usize, row_offsets: &[u32], cols: &[u32], diagonal: &[u32], blocks: &[f32]) -> u8
+    ensures { λ r. ⌜ r ≡ verdict (clearing.refusals (clearing.given n (now («row_offsets» .entry)) (now (cols .entry)) (now (diagonal .entry)) (now (blocks .entry)))) ⌝ }
+{
+    if law::PARTICLES < n {
+        return 1;
+    }
+    if !pattern_room(n, row_offsets, cols, diagonal) {
+        return 3;
+    }
+    if !blocks_room(n, row_offsets, blocks) {
+        return 3;
+    }
+    if !pattern_formed(n, row_offsets, cols, diagonal) {
+        return 5;
+    }
+    0
+}
+
+pub fn values_room(n: usize, row_offsets: &[u32], blocks: &[f32], x: &[f32], out: &[f32]) -> bool
+    requires { ⌜ (n ≤ particles) × (n < length (now «row_offsets»)) ⌝ }
+    ensures { λ r. ⌜ r ≡ enough true (multiplying.valuesRoom n (now («row_offsets» .entry)) (now (blocks .entry)) (now (x .entry)) (now (out .entry))) ⌝ }
+{
+    let m = 2 * n;
+    (4 * law::wide(row_offsets[n]) <= blocks.len()) & (m <= x.len()) & (m <= out.len())
+}
+
+pub fn multiplying(
+    n: usize,
+    row_offsets: &[u32],
+    cols: &[u32],
+    diagonal: &[u32],
+    blocks: &[f32],
+    x: &[f32],
+    out: &[f32],
+) -> u8
+    ensures { λ r. ⌜ r ≡ verdict (multiplying.refusals (multiplying.given n (now («row_offsets» .entry)) (now (cols .entry)) (now (diagonal .entry)) (now (blocks .entry)) (now (x .entry)) (now (out .entry)))) ⌝ }
+{
+    if law::PARTICLES < n {
+        return 1;
+    }
+    if !pattern_room(n, row_offsets, cols, diagonal) {
+        return 3;
+    }
+    if !values_room(n, row_offsets, blocks, x, out) {
+        return 3;
+    }
+    if !pattern_formed(n, row_offsets, cols, diagonal) {
+        return 5;
+    }
+    0
+}
+
+pub fn pinning(
+    n: usize,
+    row_offsets: &[u32],
+    cols: &[u32],
+    diagonal: &[u32],
+    row: usize,
+    blocks: &[f32],
+) -> u8
+    ensures { λ r. ⌜ r ≡ verdict (pinning.refusals (pinning.given n (now («row_offsets» .entry)) (now (cols .entry)) (now (diagonal .entry)) row (now (blocks .entry)))) ⌝ }
+{
+    if law::PARTICLES < n {
+        return 1;
+    }
+    if !pattern_room(n, row_offsets, cols, diagonal) {
+        return 3;
+    }
+    if !blocks_room(n, row_offsets, blocks) {
+        return 3;
+    }
+    if n <= row {
+        return 4;
+    }
+    if !pattern_formed(n, row_offsets, cols, diagonal) {
+        return 5;
+    }
+    0
+}
+
+// A pair is no ground for refusal if its numbers are equal, or both below n.
+fn pair_ok(n: usize, a: u32, b: u32) -> bool
+    ensures { λ r. ⌜ r ≡ pairOk n a b ⌝ }
+{
+    (a == b) | ((law::wide(a) < n) & (law::wide(b) < n))
+}
+
+pub fn pairs_ok(n: usize, count: usize, pairs: &[u32]) -> bool
+    requires { ⌜ 2 * count ≤ length (now pairs) ⌝ }
+    ensures { λ r. ⌜ r ≡ every (pairOkAt n (now (pairs .entry))) 0 count ⌝ }
+{
+    let mut ok = true;
+    for i in 0..count {
+        ok = ok & pair_ok(n, pairs[2 * i], pairs[2 * i + 1]);
+    }
+    ok
+}
+
+pub fn lists_room(
+    n: usize,
+    count: usize,
+    pairs: &[u32],
+    row_offsets: &[u32],
+    cols: &[u32],
+    diagonal: &[u32],
+    work: &[u32],
+) -> bool
+    requires { ⌜ (n ≤ particles) × (count ≤ pairLimit) ⌝ }
+    ensures { λ r. ⌜ r ≡ enough true (building.listsRoom (building.given n count (now (pairs .entry)) (now («row_offsets» .entry)) (now (cols .entry)) (now (diagonal .entry)) (now (work .entry)))) ⌝ }
+{
+    let k = 2 * count;
+    (k <= pairs.len())
+        & (n + 1 <= row_offsets.len())
+        & (n + k <= cols.len())
+        & (n <= diagonal.len())
+        & (k <= work.len())
+}
+
+pub fn building(
+    n: usize,
+    count: usize,
+    pairs: &[u32],
+    row_offsets: &[u32],
+    cols: &[u32],
+    diagonal: &[u32],
+    work: &[u32],
+) -> u8
+    ensures { λ r. ⌜ r ≡ verdict (building.refusals (building.given n count (now (pairs .entry)) (now («row_offsets» .entry)) (now (cols .entry)) (now (diagonal .entry)) (now (work .entry)))) ⌝ }
+{
+    if law::PARTICLES < n {
+        return 1;
+    }
+    if law::PAIRS < count {
+        return 2;
+    }
+    if !lists_room(n, count, pairs, row_offsets, cols, diagonal, work) {
+        return 3;
+    }
+    if !pairs_ok(n, count, pairs) {
+        return 4;
+    }
+    0
+}
+
+pub fn fresh_room(n: usize, count: usize, blocks: &[f32]) -> bool
+    requires { ⌜ (n ≤ particles) × (count ≤ pairLimit) ⌝ }
+    ensures { λ r. ⌜ r ≡ enough true (frompairs.valuesRoom n count (now (blocks .entry))) ⌝ }
+{
+    4 * (n + 2 * count) <= blocks.len()
+}
+
+pub fn from_pairs(
+    n: usize,
+    count: usize,
+    pairs: &[u32],
+    row_offsets: &[u32],
+    cols: &[u32],
+    diagonal: &[u32],
+    blocks: &[f32],
+    work: &[u32],
+) -> u8
+    ensures { λ r. ⌜ r ≡ verdict (frompairs.refusals (frompairs.given (building.given n count (now (pairs .entry)) (now («row_offsets» .entry)) (now (cols .entry)) (now (diagonal .entry)) (now (work .entry))) (now (blocks .entry)))) ⌝ }
+{
+    if law::PARTICLES < n {
+        return 1;
+    }
+    if law::PAIRS < count {
+        return 2;
+    }
+    if !lists_room(n, count, pairs, row_offsets, cols, diagonal, work) {
+        return 3;
+    }
+    if !fresh_room(n, count, blocks) {
+        return 3;
+    }
+    if !pairs_ok(n, count, pairs) {
+        return 4;
+    }
+    0
+}

@@ -1,0 +1,46 @@
+-- `shape::formed::all_mirrors_ok` meets its contract. Assumes nothing.
+use mathlib.Core.Path.{_≡_}
+use Prim.Native.Nat.{_-_, _≤_, zero-le}
+use borrow.Author.Needs.{needs}
+use Rattle.law.specs.Loop.{over-none, over-turn, over-done}
+use Rattle.law.specs.Every.{every}
+use Rattle.shape.specs.Formed.{mirrorsOk}
+use Rattle.shape.specs.Rows.{at}
+use Rattle.shape.proofs.formed.all_mirrors_ok.Statement.{statement}
+use Rattle.shape.proofs.formed.all_mirrors_ok.Tie as tie
+
+abbrev Inv-loop : tie.InvT-loop
+Inv-loop n row-offsets cols ok₀ r₀ ok r = (r ≤ n) × (ok ≡ every (mirrorsOk (at row-offsets) (at cols)) 0 r)
+
+abbrev μ-loop : tie.MeasureT-loop
+μ-loop n row-offsets cols ok₀ r₀ ok r = n - r
+
+loop-holds : tie.Need-loop-holds Inv-loop μ-loop
+unfolding every
+loop-holds c = (zero-le, over-none _ 0 _)
+
+mirrors-ok-requires : tie.Need-mirrors-ok-requires Inv-loop μ-loop
+mirrors-ok-requires c κs = (c .before .before .before .before .pre, search needs)
+
+add-r : tie.Need-add-r Inv-loop μ-loop
+add-r c = search needs
+
+loop-less : tie.Need-loop-less Inv-loop μ-loop
+loop-less c = search needs
+
+loop-again : tie.Need-loop-again Inv-loop μ-loop
+unfolding every
+loop-again c =
+    let q = c .before .before in
+    (search needs, over-turn _ 0 _ _ _ _ zero-le (q .loop .inv .1) (rw (c .mirrors-ok .ensures)))
+
+returns : tie.Need-returns Inv-loop μ-loop
+unfolding every
+returns c =
+    let q = c .before in
+    over-done _ 0 _ _ _ _ (q .loop .inv .1) (q .loop .inv .0) (c .loop-test .left)
+
+pub all-mirrors-ok-spec : {M : Type 1} → statement M
+all-mirrors-ok-spec =
+    tie.close
+    (tie.spec Inv-loop μ-loop loop-holds mirrors-ok-requires add-r loop-less loop-again returns)

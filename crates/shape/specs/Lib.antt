@@ -1,0 +1,6 @@
+pub mod Formed
+pub mod Rows
+pub mod Phases
+pub mod Made
+pub mod Index
+pub mod Row

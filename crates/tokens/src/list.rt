@@ -1,0 +1,107 @@
+// The lists of a line, behind its plain numbers: each is its length and its items. A list that the line doesn't have in full ends
+// where the line does, but then `filled` says no.
+ghost use Prim.Native.Nat.{_≤_};
+ghost use lib.ListN.{length};
+ghost use Rattle.tokens.specs.Front.{Front};
+use crate::word::real;
+
+// The longest list that is taken: building with all the pairs that may be given needs about as much.
+pub const LONGEST: usize = 8256;
+
+// Where the items of the list at `at` start.
+pub fn start(w: &[u32], at: usize) -> usize
+    ensures { λ r. ⌜ r ≤ length (now (w .entry)) ⌝ }
+{
+    if at < w.len() { at + 1 } else { w.len() }
+}
+
+// Where the items end that start here, by the length that stands before them; the next list is there.
+pub fn stop(w: &[u32], start: usize) -> usize
+    requires { ⌜ start ≤ length (now w) ⌝ }
+    ensures { λ r. ⌜ (start ≤ r) × (r ≤ length (now (w .entry))) ⌝ }
+{
+    if start == 0 {
+        return 0;
+    }
+    let count = law::wide(w[start - 1]);
+    if count > w.len() - start {
+        return w.len();
+    }
+    start + count
+}
+
+// The place of the list behind the one at `at`.
+pub fn next(w: &[u32], at: usize) -> usize {
+    stop(w, start(w, at))
+}
+
+// The same, but usize::MAX if the line doesn't have the list at `at` in full, or if that is too long.
+fn behind(w: &[u32], at: usize) -> usize {
+    if at >= w.len() {
+        return usize::MAX;
+    }
+    let count = law::wide(w[at]);
+    if count > LONGEST {
+        return usize::MAX;
+    }
+    if count > w.len() - at - 1 {
+        return usize::MAX;
+    }
+    at + 1 + count
+}
+
+// Whether the words from `at` on are just so many lists, none too long.
+pub fn filled(w: &[u32], at: usize, lists: usize) -> bool {
+    let mut to = at;
+    for _ in 0..lists {
+        to = behind(w, to);
+    }
+    to == w.len()
+}
+
+fn least(a: usize, b: usize) -> usize
+    ensures { λ r. ⌜ (r ≤ a) × (r ≤ b) ⌝ }
+{
+    if a < b { a } else { b }
+}
+
+fn copy_wholes(items: &[u32], to: &mut [u32]) -> usize
+    ensures { λ r. ⌜ Front r (now (to .exit)) ⌝ }
+{
+    let n = least(items.len(), to.len());
+    let mut i = 0usize;
+    while i < n {
+        to[i] = items[i];
+        i += 1;
+    }
+    n
+}
+
+fn copy_reals(items: &[u32], to: &mut [f32]) -> usize
+    ensures { λ r. ⌜ Front r (now (to .exit)) ⌝ }
+{
+    let n = least(items.len(), to.len());
+    let mut i = 0usize;
+    while i < n {
+        to[i] = real(items[i]);
+        i += 1;
+    }
+    n
+}
+
+// The items of the list at `at` into a buffer's front, and how many they are.
+pub fn wholes(w: &[u32], at: usize, to: &mut [u32]) -> usize
+    ensures { λ r. ⌜ Front r (now (to .exit)) ⌝ }
+{
+    let a = start(w, at);
+    let b = stop(w, a);
+    copy_wholes(&w[a..b], to)
+}
+
+pub fn reals(w: &[u32], at: usize, to: &mut [f32]) -> usize
+    ensures { λ r. ⌜ Front r (now (to .exit)) ⌝ }
+{
+    let a = start(w, at);
+    let b = stop(w, a);
+    copy_reals(&w[a..b], to)
+}

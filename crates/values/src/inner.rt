@@ -1,0 +1,99 @@
+// The values of a block matrix, four floats to a block, in lent slices. What these require, the doors have tested.
+use plane::Vector;
+ghost use mathlib.Core.Path.{_≡_};
+ghost use Prim.Native.Nat.{_+_, _*_, _≤_, _<_};
+ghost use lib.ListN.{length};
+ghost use Rattle.law.specs.Mix.{mix};
+ghost use Rattle.plane.specs.Lent.{flat};
+ghost use Rattle.shape.specs.Rows.{at, Rows, Pattern};
+ghost use Rattle.values.specs.Product.{slotStep, rowSum, productAt, Reach};
+ghost use Rattle.values.specs.Dirichlet.{zeroBlock, pinned};
+ghost use Rattle.values.specs.Mirrors.{crossed, Cross};
+
+// A row's sum and one slot more: its block times the vector's part that its column names.
+fn add_slot(cols: &[u32], blocks: &[f32], x: &[f32], k: usize, sum: Vector) -> Vector
+    requires { ⌜ (k < length (now cols)) × (4 * k + 3 < length (now blocks)) × (2 * at (now cols) k + 1 < length (now x)) ⌝ }
+    ensures { λ r. ⌜ r ≡ slotStep (now (cols .entry)) (now (blocks .entry)) (now (x .entry)) k sum ⌝ }
+{
+    let c = law::wide(cols[k]);
+    plane::add(
+        sum,
+        plane::times(
+            plane::inner::block_at(blocks, k),
+            plane::inner::vector_at(x, c),
+        ),
+    )
+}
+
+// The sum over the slots a..b, from (+0.0, +0.0).
+fn row_sum(cols: &[u32], blocks: &[f32], x: &[f32], a: usize, b: usize) -> Vector
+    requires { ⌜ a ≤ b ⌝ }
+    requires { ⌜ Reach (now cols) (now blocks) (now x) a b ⌝ }
+    ensures { λ r. ⌜ r ≡ rowSum (now (cols .entry)) (now (blocks .entry)) (now (x .entry)) a b ⌝ }
+{
+    let mut sum = [0.0, 0.0];
+    for k in a..b {
+        let next = add_slot(cols, blocks, x, k, sum);
+        sum = next;
+    }
+    sum
+}
+
+// The matrix times x. A row ends where the next one starts.
+pub fn mul(n: usize, row_offsets: &[u32], cols: &[u32], blocks: &[f32], x: &[f32], out: &mut [f32])
+    requires { ⌜ Rows n (now «row_offsets») (now cols) ⌝ }
+    requires { ⌜ (4 * at (now «row_offsets») n ≤ length (now blocks)) × (2 * n ≤ length (now x)) × (2 * n ≤ length (now out)) ⌝ }
+    ensures { λ _. ⌜ now (out .exit) ≡ mix 2 n (productAt (now («row_offsets» .entry)) (now (cols .entry)) (now (blocks .entry)) (now (x .entry))) (now (out .entry)) ⌝ }
+{
+    let mut start = law::wide(row_offsets[0]);
+    for r in 0..n {
+        let end = law::wide(row_offsets[r + 1]);
+        plane::inner::set_vector(out, r, row_sum(cols, blocks, x, start, end));
+        start = end;
+    }
+}
+
+// The first m blocks, set to zero.
+pub fn clear_values(m: usize, blocks: &mut [f32])
+    requires { ⌜ 4 * m ≤ length (now blocks) ⌝ }
+    ensures { λ _. ⌜ now (blocks .exit) ≡ mix 4 m (λ k. flat zeroBlock) (now (blocks .entry)) ⌝ }
+{
+    for k in 0..m {
+        plane::inner::set_block(blocks, k, [[0.0, 0.0], [0.0, 0.0]]);
+    }
+}
+
+// Slot k of a row and its mirror, the row's slot in the row that the slot's column names, set to zero. On the diagonal the two are one.
+fn clear_cross(row_offsets: &[u32], cols: &[u32], row: u32, k: usize, blocks: &mut [f32])
+    requires { ⌜ Cross (now «row_offsets») (now cols) row k (now blocks) ⌝ }
+    ensures { λ _. ⌜ now (blocks .exit) ≡ crossed (now («row_offsets» .entry)) (now (cols .entry)) row k (now (blocks .entry)) ⌝ }
+{
+    let c = law::wide(cols[k]);
+    let mirror = law::wide(shape::index::block_index(row_offsets, cols, c, row));
+    plane::inner::set_block(blocks, k, [[0.0, 0.0], [0.0, 0.0]]);
+    plane::inner::set_block(blocks, mirror, [[0.0, 0.0], [0.0, 0.0]]);
+}
+
+// A row pinned: identity on its diagonal, zero in the rest of the row and in its mirrors.
+pub fn make_dirichlet(
+    n: usize,
+    row_offsets: &[u32],
+    cols: &[u32],
+    diagonal: &[u32],
+    row: usize,
+    blocks: &mut [f32],
+)
+    requires { ⌜ Pattern n (now «row_offsets») (now cols) (now diagonal) ⌝ }
+    requires { ⌜ row < n ⌝ }
+    requires { ⌜ 4 * at (now «row_offsets») n ≤ length (now blocks) ⌝ }
+    ensures { λ _. ⌜ now (blocks .exit) ≡ mix 4 (at (now («row_offsets» .entry)) n) (pinned (now («row_offsets» .entry)) (now (cols .entry)) row (now (blocks .entry))) (now (blocks .entry)) ⌝ }
+{
+    let start = law::wide(row_offsets[row]);
+    let end = law::wide(row_offsets[row + 1]);
+    let col = row as u32;
+    for k in start..end {
+        clear_cross(row_offsets, cols, col, k, blocks);
+    }
+    let slot = law::wide(diagonal[row]);
+    plane::inner::set_block(blocks, slot, [[1.0, 0.0], [0.0, 1.0]]);
+}

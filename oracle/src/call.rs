@@ -1,0 +1,128 @@
+//! A call of the block matrix as data: what it takes, what it may change, and what it leaves.
+
+/// What a list holds. Either way it is kept as 32 bits to an item.
+#[derive(Clone, Copy, PartialEq, Eq)]
+pub enum Items {
+    Whole,
+    Float,
+}
+
+#[derive(Clone, Copy, PartialEq, Eq, Debug)]
+pub enum Operation {
+    FromPairs,
+    PatternFromPairs,
+    BlockIndex,
+    DiagonalIndex,
+    ClearValues,
+    Mul,
+    MakeDirichlet,
+}
+
+use Items::{Float, Whole};
+use Operation::*;
+
+pub const OPERATIONS: [Operation; 7] = [
+    FromPairs,
+    PatternFromPairs,
+    BlockIndex,
+    DiagonalIndex,
+    ClearValues,
+    Mul,
+    MakeDirichlet,
+];
+
+impl Operation {
+    pub fn word(self) -> &'static str {
+        match self {
+            FromPairs => "from_pairs",
+            PatternFromPairs => "pattern_from_pairs",
+            BlockIndex => "block_index",
+            DiagonalIndex => "diagonal_index",
+            ClearValues => "clear_values",
+            Mul => "mul",
+            MakeDirichlet => "make_dirichlet",
+        }
+    }
+
+    /// How many plain numbers it takes: n, then the pair count, or the row and its column.
+    pub fn numbers(self) -> usize {
+        match self {
+            ClearValues | Mul => 1,
+            FromPairs | PatternFromPairs | DiagonalIndex | MakeDirichlet => 2,
+            BlockIndex => 3,
+        }
+    }
+
+    /// Its lists, in the order of its parameters: the pairs if it builds, the pattern's three, and
+    /// what else it reads or writes.
+    pub fn lists(self) -> &'static [Items] {
+        match self {
+            FromPairs => &[Whole, Whole, Whole, Whole, Float, Whole],
+            PatternFromPairs => &[Whole; 5],
+            BlockIndex | DiagonalIndex => &[Whole; 3],
+            ClearValues | MakeDirichlet => &[Whole, Whole, Whole, Float],
+            Mul => &[Whole, Whole, Whole, Float, Float, Float],
+        }
+    }
+
+    /// The first list that the call may change; it may change all after it.
+    pub fn first_changed(self) -> usize {
+        match self {
+            FromPairs | PatternFromPairs => 1,
+            BlockIndex | DiagonalIndex | ClearValues | MakeDirichlet => 3,
+            Mul => 5,
+        }
+    }
+
+    pub fn builds(self) -> bool {
+        matches!(self, FromPairs | PatternFromPairs)
+    }
+}
+
+/// How long building's lists must be, in the order of `from_pairs`: without its blocks they are
+/// `pattern_from_pairs`'s.
+pub fn building_needs(n: usize, count: usize) -> [usize; 6] {
+    let room = n + 2 * count;
+    let work = 2 * count;
+    [2 * count, n + 1, room, n, 4 * room, work]
+}
+
+#[derive(Clone)]
+pub struct Call {
+    pub operation: Operation,
+    pub numbers: Vec<usize>,
+    pub lists: Vec<Vec<u32>>,
+}
+
+impl Call {
+    pub fn n(&self) -> usize {
+        self.numbers[0]
+    }
+
+    /// How long each list must be. A pattern's row offsets must be long enough to tell.
+    pub fn needs(&self) -> Vec<usize> {
+        let n = self.n();
+        match self.operation {
+            FromPairs => building_needs(n, self.numbers[1]).to_vec(),
+            PatternFromPairs => {
+                let [pairs, row_offsets, cols, diagonal, _, work] =
+                    building_needs(n, self.numbers[1]);
+                vec![pairs, row_offsets, cols, diagonal, work]
+            }
+            _ => {
+                let blocks = self.lists[0][n] as usize;
+                let all = [n + 1, blocks, n, 4 * blocks, 2 * n, 2 * n];
+                all[..self.operation.lists().len()].to_vec()
+            }
+        }
+    }
+}
+
+/// What a call answers, and what it leaves in the lists that it may change.
+#[derive(Clone, PartialEq)]
+pub struct Left {
+    /// 0 if the call was accepted.
+    pub refused: u8,
+    pub number: Option<usize>,
+    pub lists: Vec<Vec<u32>>,
+}

@@ -1,0 +1,78 @@
+//! The lines of calls: a list is its length and its items.
+
+use crate::call::{Call, Items, Left, OPERATIONS};
+use crate::text::{answer_token, float_token, read_float};
+
+fn case_item(items: Items, bits: u32) -> String {
+    match items {
+        Items::Whole => bits.to_string(),
+        Items::Float => float_token(f32::from_bits(bits)),
+    }
+}
+
+fn answer_item(items: Items, bits: u32) -> String {
+    match items {
+        Items::Whole => bits.to_string(),
+        Items::Float => answer_token(f32::from_bits(bits)),
+    }
+}
+
+fn push(tokens: &mut Vec<String>, kind: Items, list: &[u32], item: fn(Items, u32) -> String) {
+    tokens.push(list.len().to_string());
+    tokens.extend(list.iter().map(|&bits| item(kind, bits)));
+}
+
+impl Call {
+    pub fn line(&self) -> String {
+        let mut tokens = vec![self.operation.word().to_string()];
+        tokens.extend(self.numbers.iter().map(usize::to_string));
+        for (&kind, list) in self.operation.lists().iter().zip(&self.lists) {
+            push(&mut tokens, kind, list, case_item);
+        }
+        tokens.join(" ")
+    }
+
+    /// The call that a case line writes, if it is one.
+    pub fn read(word: &str, tokens: &[&str]) -> Option<Self> {
+        let operation = OPERATIONS.into_iter().find(|it| it.word() == word)?;
+        let (numbers, mut rest) = tokens.split_at_checked(operation.numbers())?;
+        let numbers: Option<Vec<usize>> = numbers.iter().map(|it| it.parse().ok()).collect();
+        let mut lists = Vec::new();
+        for &kind in operation.lists() {
+            let (length, items) = rest.split_first()?;
+            let (items, behind) = items.split_at_checked(length.parse().ok()?)?;
+            lists.push(read_items(kind, items)?);
+            rest = behind;
+        }
+        let numbers = numbers?;
+        rest.is_empty().then_some(Self {
+            operation,
+            numbers,
+            lists,
+        })
+    }
+}
+
+fn read_items(kind: Items, tokens: &[&str]) -> Option<Vec<u32>> {
+    let one = |token: &&str| match kind {
+        Items::Whole => token.parse().ok(),
+        Items::Float => read_float(token).map(f32::to_bits),
+    };
+    tokens.iter().map(one).collect()
+}
+
+impl Left {
+    /// The answer line to `call`.
+    pub fn line(&self, call: &Call) -> String {
+        let mut tokens = match self.refused {
+            0 => vec!["done".to_string()],
+            number => vec!["refused".to_string(), number.to_string()],
+        };
+        tokens.extend(self.number.iter().map(usize::to_string));
+        let kinds = &call.operation.lists()[call.operation.first_changed()..];
+        for (&kind, list) in kinds.iter().zip(&self.lists) {
+            push(&mut tokens, kind, list, answer_item);
+        }
+        tokens.join(" ")
+    }
+}

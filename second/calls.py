@@ -1,0 +1,74 @@
+"""Accepted calls over small graphs, and at the limits."""
+
+import math
+
+import matrix
+import rules
+import text
+
+LARGEST = 4294967295
+
+# Particles and pairs, among them repeats in both orders, equal pairs, and equal pairs at n or above.
+SMALL = [
+    (0, [(0, 0), (LARGEST, LARGEST)]),
+    (1, []),
+    (2, [(0, 1), (1, 0)]),
+    (3, [(2, 1), (9, 9)]),
+]
+LARGER = [
+    (0, []),
+    (4, [(0, 1), (1, 0), (0, 1), (1, 1), (3, 2)]),
+]
+
+VALUES = [0.0, -0.0, 1.0, -1.0, 0.1, 3e38, -3e38, 1e-45, 1e-39, -7.25, 1e20, math.inf, -math.inf, math.nan]
+
+
+def pick(draw, items):
+    return items[int(draw.random() * len(items))]
+
+
+def junk(draw, name, length):
+    values = VALUES if name in text.FLOATS else [7, 0, 1, LARGEST]
+    return [pick(draw, values) for _ in range(length)]
+
+
+def pattern(n, pairs):
+    """The lists that building leaves, just as long as their content."""
+    call = {"n": n, "count": len(pairs), "pairs": [number for pair in pairs for number in pair]}
+    call.update({"row_offsets": [], "cols": [], "diagonal": [], "work": []})
+    blocks = matrix.pattern_from_pairs(call)
+    return {"row_offsets": call["row_offsets"], "cols": call["cols"][:blocks], "diagonal": call["diagonal"]}
+
+
+def accepted(draw, word, graph, rest):
+    """A call of this word on the graph, each list longer than it must be by `rest` places of junk.
+
+    With no particles a call on a row isn't accepted: its row 0 is at n.
+    """
+    n, pairs = graph
+    numbers, lists, _ = text.SHAPES[word]
+    call = {"word": word, "n": n}
+    if "count" in numbers:
+        call |= {"count": len(pairs), "pairs": [number for pair in pairs for number in pair]}
+    else:
+        call |= pattern(n, pairs)
+    if "row" in numbers:
+        call["row"] = int(draw.random() * n)
+    if "col" in numbers:
+        call["col"] = pick(draw, [*range(n + 1), LARGEST])
+    call |= {name: call.get(name, []) for name in lists}
+    for name, need in rules.needs(call).items():
+        if name in lists:
+            call[name] = call[name] + junk(draw, name, need + rest - len(call[name]))
+    return call
+
+
+def at_the_limits(draw):
+    many = (rules.PARTICLES, [])
+    last = rules.PARTICLES - 1
+    yield accepted(draw, "pattern_from_pairs", many, 0)
+    yield accepted(draw, "diagonal_index", many, 0) | {"row": last}
+    yield accepted(draw, "block_index", many, 0) | {"row": last, "col": last}
+    pairs = accepted(draw, "pattern_from_pairs", (2, [(0, 1)] * rules.PAIRS), 0)
+    # Zeros keep the line short.
+    yield pairs | {name: [0] * len(pairs[name]) for name in ("cols", "work")}

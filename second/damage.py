@@ -1,0 +1,130 @@
+"""Damaged input: faults in every list and number of every call, alone and several at once."""
+
+import copy
+import random
+
+import calls
+import rules
+import text
+from calls import LARGEST
+
+SEVERAL = 8
+
+
+def put(name, at, value):
+    def fault(call):
+        call[name][at] = value
+
+    return fault
+
+
+def swap(name, at):
+    def fault(call):
+        items = call[name]
+        items[at], items[at + 1] = items[at + 1], items[at]
+
+    return fault
+
+
+def drop(slot):
+    """The pattern without one block; its lists stay as long as they were."""
+
+    def fault(call):
+        call["cols"].append(call["cols"].pop(slot))
+        for name in "row_offsets", "diagonal":
+            call[name] = [place - (slot < place < LARGEST) for place in call[name]]
+
+    return fault
+
+
+def number(name, value):
+    def fault(call):
+        call[name] = value
+
+    return fault
+
+
+def cut(name, length):
+    def fault(call):
+        del call[name][length:]
+
+    return fault
+
+
+def faults_of_pairs(call):
+    n = call["n"]
+    for at in range(2 * call["count"]):
+        yield put("pairs", at, n)
+    if call["count"]:
+        yield put("pairs", 0, LARGEST)
+
+
+def faults_of_pattern(call):
+    n, starts, cols, diagonal = (call[name] for name in ("n", "row_offsets", "cols", "diagonal"))
+    blocks = starts[n]
+    for at in range(n + 1):
+        yield from (put("row_offsets", at, value) for value in (starts[at] + 1, LARGEST))
+    for at in range(1, n + 1):
+        yield from (put("row_offsets", at, value) for value in (starts[at] - 1, 0))
+    for slot in range(blocks):
+        yield drop(slot)
+    for slot in range(blocks - 1):
+        yield swap("cols", slot)
+        yield put("cols", slot + 1, cols[slot])
+    for row in range(n):
+        last = starts[row + 1] - 1
+        yield from (put("cols", last, value) for value in (n, LARGEST, cols[last] + 1))
+        yield from (put("diagonal", row, value) for value in (diagonal[row] + 1, diagonal[row] - 1, blocks, LARGEST) if value >= 0)
+
+
+def faults_of_numbers(call):
+    n = call["n"]
+    yield from (number("n", value) for value in (n + 1, rules.PARTICLES, rules.PARTICLES + 1, LARGEST))
+    if n:
+        yield number("n", n - 1)
+    if "count" in call:
+        yield from (number("count", value) for value in (call["count"] + 1, rules.PAIRS, rules.PAIRS + 1, LARGEST))
+    if "row" in call:
+        yield from (number("row", value) for value in (n, n + 1, LARGEST))
+
+
+def faults_of_lengths(call):
+    needs = rules.needs(call)
+    for name in text.lists(call):
+        if needs[name]:
+            yield cut(name, needs[name] - 1)
+            yield cut(name, 0)
+
+
+def faults(call):
+    """Those that change an item come first: the others may leave no item to change."""
+    yield from faults_of_pairs(call) if "pairs" in call else faults_of_pattern(call)
+    yield from faults_of_numbers(call)
+    yield from faults_of_lengths(call)
+
+
+def damaged(call, some):
+    call = copy.deepcopy(call)
+    for fault in some:
+        fault(call)
+    return call
+
+
+def several(draw, call):
+    """Two or three faults at once, so that the order of the numbers shows."""
+    known = list(faults(call))
+    for turn in range(SEVERAL):
+        places = sorted(int(draw.random() * len(known)) for _ in range(2 + turn % 2))
+        yield damaged(call, [known[place] for place in places])
+
+
+def cases(seed):
+    draw = random.Random(seed)
+    for word, (_, names, _) in text.SHAPES.items():
+        # Floats make long lines, so the larger graphs are for the calls without them.
+        for graph in calls.SMALL if "blocks" in names else calls.SMALL + calls.LARGER:
+            call = calls.accepted(draw, word, graph, 1)
+            yield call
+            yield from (damaged(call, [fault]) for fault in faults(call))
+            yield from several(draw, call)
+    yield from calls.at_the_limits(draw)

@@ -1,0 +1,109 @@
+"""The accepted calls. Each changes its lists in place and hands back the answer's number, if it has one."""
+
+import math
+import struct
+
+import rules
+
+NOWHERE = 4294967295
+ZERO = [0.0, 0.0, 0.0, 0.0]
+IDENTITY = [1.0, 0.0, 0.0, 1.0]
+
+
+def rounded(x):
+    """The f32 nearest to a double. Sums and products of two f32 come out right: a double has more than twice the digits."""
+    try:
+        return struct.unpack("<f", struct.pack("<f", x))[0]
+    except OverflowError:
+        return math.copysign(math.inf, x)
+
+
+def plus(a, b):
+    return rounded(a + b)
+
+
+def times(a, b):
+    return rounded(a * b)
+
+
+def put(target, items, length):
+    """The items, then zeros up to the length, at the front of the list."""
+    target[:length] = items + [0] * (length - len(items))
+
+
+def pattern_from_pairs(call):
+    n, given = call["n"], call["pairs"][: 2 * call["count"]]
+    rows = [{r} for r in range(n)]
+    for a, b in zip(given[::2], given[1::2]):
+        if a != b:
+            rows[a].add(b)
+            rows[b].add(a)
+    starts, cols, diagonal = [0], [], []
+    for r, row in enumerate(map(sorted, rows)):
+        diagonal.append(len(cols) + row.index(r))
+        cols += row
+        starts.append(len(cols))
+    need = rules.needs(call)
+    for name, items in ("row_offsets", starts), ("cols", cols), ("diagonal", diagonal), ("work", []):
+        put(call[name], items, need[name])
+    return len(cols)
+
+
+def from_pairs(call):
+    need = rules.needs(call)["blocks"]
+    call["blocks"][:need] = [0.0] * need
+    return pattern_from_pairs(call)
+
+
+def slots(call, row):
+    return range(call["row_offsets"][row], call["row_offsets"][row + 1])
+
+
+def slot_of(call, row, col):
+    return next((k for k in slots(call, row) if call["cols"][k] == col), NOWHERE)
+
+
+def block_index(call):
+    return slot_of(call, call["row"], call["col"])
+
+
+def diagonal_index(call):
+    return call["diagonal"][call["row"]]
+
+
+def clear_values(call):
+    need = rules.needs(call)["blocks"]
+    call["blocks"][:need] = [0.0] * need
+
+
+def mul(call):
+    blocks, x, out = call["blocks"], call["x"], call["out"]
+    for r in range(call["n"]):
+        total = [0.0, 0.0]
+        for k in slots(call, r):
+            c = call["cols"][k]
+            for i in 0, 1:
+                part = plus(times(blocks[4 * k + i], x[2 * c]), times(blocks[4 * k + 2 + i], x[2 * c + 1]))
+                total[i] = plus(total[i], part)
+        out[2 * r : 2 * r + 2] = total
+
+
+def make_dirichlet(call):
+    blocks, row = call["blocks"], call["row"]
+    for k in slots(call, row):
+        mirror = slot_of(call, call["cols"][k], row)
+        blocks[4 * mirror : 4 * mirror + 4] = ZERO
+        blocks[4 * k : 4 * k + 4] = ZERO
+    k = call["diagonal"][row]
+    blocks[4 * k : 4 * k + 4] = IDENTITY
+
+
+WORK = {
+    "from_pairs": from_pairs,
+    "pattern_from_pairs": pattern_from_pairs,
+    "block_index": block_index,
+    "diagonal_index": diagonal_index,
+    "clear_values": clear_values,
+    "mul": mul,
+    "make_dirichlet": make_dirichlet,
+}

@@ -1,0 +1,34 @@
+#!/usr/bin/env python3
+"""The block matrix of document 01 a second time. `answer`: case lines in, answer lines out. `cases SEED`: damaged input."""
+
+import sys
+
+sys.dont_write_bytecode = True
+
+import damage
+import matrix
+import rules
+import text
+
+
+def answer(line):
+    call = text.read(line)
+    refused = rules.refusal(call)
+    if refused:
+        return text.answer_line(call, ["refused", refused])
+    number = matrix.WORK[call["word"]](call)
+    return text.answer_line(call, ["done"] if number is None else ["done", number])
+
+
+def main(words):
+    if words == ["answer"]:
+        lines = (answer(line.rstrip("\n")) for line in sys.stdin)
+    elif len(words) == 2 and words[0] == "cases":
+        lines = map(text.case_line, damage.cases(int(words[1])))
+    else:
+        sys.exit("usage: program.py answer | program.py cases SEED")
+    for line in lines:
+        print(line)
+
+
+main(sys.argv[1:])

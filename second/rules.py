@@ -1,0 +1,68 @@
+"""Document 01's refusals, as far as the block matrix meets them."""
+
+PARTICLES = 1024
+PAIRS = 4096
+
+
+def needs(call):
+    """How long each list must be, where the row starts are long enough to read the block count."""
+    n = call["n"]
+    if "pairs" in call:
+        count = call["count"]
+        room = n + 2 * count
+        starts = {"pairs": 2 * count, "row_offsets": n + 1, "cols": room, "diagonal": n}
+        return starts | {"blocks": 4 * room, "work": 2 * count}
+    blocks = call["row_offsets"][n]
+    starts = {"row_offsets": n + 1, "cols": blocks, "diagonal": n}
+    return starts | {"blocks": 4 * blocks, "x": 2 * n, "out": 2 * n}
+
+
+def too_many_particles(call):
+    return call["n"] > PARTICLES
+
+
+def too_many_pairs(call):
+    return call.get("count", 0) > PAIRS
+
+
+def too_short(call):
+    if len(call["row_offsets"]) < call["n"] + 1:
+        return True
+    return any(len(call[name]) < need for name, need in needs(call).items() if name in call)
+
+
+def outside(call):
+    n = call["n"]
+    if "pairs" in call:
+        given = call["pairs"][: 2 * call["count"]]
+        return any(a != b and max(a, b) >= n for a, b in zip(given[::2], given[1::2]))
+    return call.get("row", -1) >= n
+
+
+def misformed(call):
+    return "pairs" not in call and not well_formed(call)
+
+
+def well_formed(call):
+    n, starts, cols, diagonal = (call[name] for name in ("n", "row_offsets", "cols", "diagonal"))
+    if starts[0] != 0 or any(starts[r] > starts[r + 1] for r in range(n)):
+        return False
+    stored = set()
+    for r in range(n):
+        row = cols[starts[r] : starts[r + 1]]
+        rising = all(left < right for left, right in zip(row, row[1:]))
+        inside = all(c < n for c in row)
+        own_slot = starts[r] <= diagonal[r] < starts[r + 1] and cols[diagonal[r]] == r
+        if not (rising and inside and own_slot):
+            return False
+        stored.update((r, c) for c in row)
+    return all((c, r) in stored for r, c in stored)
+
+
+# Lowest number first; a later test may read what an earlier one has found to be there.
+TABLE = [(1, too_many_particles), (2, too_many_pairs), (3, too_short), (4, outside), (5, misformed)]
+
+
+def refusal(call):
+    """The number that the call is refused by, or 0."""
+    return next((number for number, fails in TABLE if fails(call)), 0)

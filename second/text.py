@@ -1,0 +1,73 @@
+"""Case and answer lines. A call is a dictionary: its word, its plain numbers and its lists, each by its name."""
+
+import math
+import struct
+
+FLOATS = {"blocks", "x", "out"}
+PATTERN = ["row_offsets", "cols", "diagonal"]
+
+# The plain numbers, the lists, and those of the lists that the call may change.
+SHAPES = {
+    "from_pairs": (["n", "count"], ["pairs", *PATTERN, "blocks", "work"], [*PATTERN, "blocks", "work"]),
+    "pattern_from_pairs": (["n", "count"], ["pairs", *PATTERN, "work"], [*PATTERN, "work"]),
+    "block_index": (["n", "row", "col"], PATTERN, []),
+    "diagonal_index": (["n", "row"], PATTERN, []),
+    "clear_values": (["n"], [*PATTERN, "blocks"], ["blocks"]),
+    "mul": (["n"], [*PATTERN, "blocks", "x", "out"], ["out"]),
+    "make_dirichlet": (["n", "row"], [*PATTERN, "blocks"], ["blocks"]),
+}
+
+
+def lists(call):
+    return SHAPES[call["word"]][1]
+
+
+def float_of(token):
+    if len(token) != 9 or token[0] != "x":
+        raise ValueError(f"not a float: {token}")
+    return struct.unpack(">f", bytes.fromhex(token[1:]))[0]
+
+
+def token_of(item):
+    """A float keeps its sign and its bits, but a NaN is one NaN."""
+    return "x" + struct.pack(">f", item).hex() if isinstance(item, float) else str(item)
+
+
+def answer_token(item):
+    return "nan" if isinstance(item, float) and math.isnan(item) else token_of(item)
+
+
+def read(line):
+    word, *tokens = line.split(" ")
+    numbers, names, _ = SHAPES[word]
+    call = {"word": word}
+    at = len(numbers)
+    call.update(zip(numbers, map(int, tokens[:at])))
+    for name in names:
+        length, at = int(tokens[at]), at + 1
+        item = float_of if name in FLOATS else int
+        call[name] = [item(token) for token in tokens[at : at + length]]
+        at += length
+    if at != len(tokens):
+        raise ValueError(f"not a case: {line}")
+    return call
+
+
+def listed(items, token):
+    return [str(len(items)), *map(token, items)]
+
+
+def case_line(call):
+    numbers, names, _ = SHAPES[call["word"]]
+    tokens = [call["word"], *(str(call[name]) for name in numbers)]
+    for name in names:
+        tokens += listed(call[name], token_of)
+    return " ".join(tokens)
+
+
+def answer_line(call, verdict):
+    """The verdict, then every list that the call may change, as it stands now."""
+    tokens = [str(word) for word in verdict]
+    for name in SHAPES[call["word"]][2]:
+        tokens += listed(call[name], answer_token)
+    return " ".join(tokens)
