@@ -2,11 +2,15 @@ pub mod Loop
 pub mod Along
 pub mod Truth
 pub mod Every
+pub mod All
 pub mod Gather
 pub mod Keep
 pub mod Find
 pub mod Store
 pub mod Mix
+pub mod Put
+pub mod Bytes
+pub mod Decimal
 pub mod Refusal
 pub mod Room
 pub mod Promise

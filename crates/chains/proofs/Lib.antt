@@ -1,0 +1,5 @@
+mod Place
+mod Final
+mod Blocks
+mod Envelope
+pub mod Whole

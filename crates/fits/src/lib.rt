@@ -1,0 +1,3 @@
+// Whether a plan fits: by the rules that ask for no pattern, and with its pattern.
+pub mod inside;
+pub mod plan;

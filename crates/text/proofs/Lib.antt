@@ -1,0 +1,5 @@
+mod Turn
+mod Scanning
+mod Passes
+mod Language
+mod Readings
