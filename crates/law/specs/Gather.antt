@@ -7,7 +7,7 @@ use native.Mathlib.Omega.{arith}
 use native.Mathlib.Nat.{mul-zero, mul-suc}
 use native.Mathlib.Numerals.{add-one}
 use lib.ListN.{length, getD, length-append, List·getD-append}
-use lib.Seq.{getD-append-add}
+use lib.Seq.{getD-append-add, ext-getD}
 use Rattle.law.specs.Loop.{over, over-none, over-more, from}
 use Rattle.law.specs.Truth.{below-or}
 
@@ -113,3 +113,7 @@ module _ (f : ℕ → ℕ) where
   table-at n i l =
       let e : upTo (λ i. f i ∷ []) i + 0 ≡ i = omega (arith, upTo-table i) in
       rw e at (gather-at (λ i. f i ∷ []) n i 0 0 l (omega arith))
+
+  -- a list that holds f's numbers is f's table
+  pub table-of : (n : ℕ) (l : List ℕ) → length l ≡ n → ((i : ℕ) → i < n → getD l i 0 ≡ f i) → l ≡ table f n
+  table-of n l e h = ext-getD 0 l (table f n) (e ∙ sym (length-table n)) (λ i g. h i (omega arith) ∙ sym (table-at n i (omega arith)))

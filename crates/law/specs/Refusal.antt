@@ -4,7 +4,7 @@ use native.Mathlib.Omega.{arith}
 use mathlib.Core.Logic.{_⊎_, inl, inr, ⊎-elim}
 use mathlib.Core.Path.{_≡_, refl, sym, ap, _∙_}
 use mathlib.Core.Bool.{Bool, true, false, not, cond}
-use mathlib.Core.List.{List, [], _∷_}
+use mathlib.Core.List.{List, [], _∷_, _++_}
 use borrow.Author.Tests.{not-true, not-false}
 
 pub record Test : Type 0 where
@@ -109,3 +109,40 @@ lowest-or t ts false k e a more f = rw e (⊎-elim (λ h. omega (arith, h .0)) (
 pub it-is-lowest : (j : ℕ) (ts : List Test) → Rising j ts → (k : ℕ) → Fails ts k → verdict ts ≤ k
 it-is-lowest j [] o k f = elim f [ ]
 it-is-lowest j (t ∷ ts) o k f = lowest-or t ts (t .passes) k refl (o .1) (it-is-lowest (t .number) ts (o .1) k) f
+
+-- ---- a list in two parts: the later tests count only where every earlier one passes
+
+pub rising-front : (k : ℕ) (ts us : List Test) → Rising k (ts ++ us) → Rising k ts
+rising-front k [] us o = tt
+rising-front k (t ∷ ts) us o = (o .0, rising-front (t .number) ts us (o .1))
+
+pub decides-early : (ts us : List Test) → (verdict ts ≡ 0 → ⊥) → verdict ts ≡ verdict (ts ++ us)
+unfolding verdict
+decides-early [] us h = absurd (h refl)
+decides-early (t ∷ ts) us h = go (t .passes) refl (decides-early ts us)
+  where
+    go : (x : Bool) → t .passes ≡ x → ((verdict ts ≡ 0 → ⊥) → verdict ts ≡ verdict (ts ++ us)) → verdict (t ∷ ts) ≡ verdict (t ∷ (ts ++ us))
+    go true e more = rw e (more (λ z. h (rw e z)))
+    go false e more = rw e
+
+pub decides-late : (k : ℕ) (ts us : List Test) → 0 < k → Rising k ts → verdict ts ≡ 0 → verdict us ≡ verdict (ts ++ us)
+unfolding verdict
+decides-late k ts us p o z = go ts (all-pass k ts p o z)
+  where
+    go : (ts : List Test) → Passed ts → verdict us ≡ verdict (ts ++ us)
+    go [] h = refl
+    go (t ∷ ts) h = rw (h .0) (go ts (h .1))
+
+-- every number is below m
+abbrev pub Under : ℕ → List Test → Type 0
+Under m [] = Unit {0}
+Under m (t ∷ ts) = (t .number < m) × Under m ts
+
+pub verdict-under : (m : ℕ) (ts : List Test) → 0 < m → Under m ts → verdict ts < m
+unfolding verdict
+verdict-under m [] p u = p
+verdict-under m (t ∷ ts) p u = go (t .passes) refl (verdict-under m ts p (u .1))
+  where
+    go : (x : Bool) → t .passes ≡ x → verdict ts < m → verdict (t ∷ ts) < m
+    go true e l = rw e l
+    go false e l = rw e (u .0)

@@ -99,3 +99,7 @@ module _ {A : Type 0} where
 pub table-more : (f : ℕ → ℕ) (l : List ℕ) (r : ℕ) → set (written l 0 (table f r)) r (f r) ≡ written l 0 (table f (r + 1))
 unfolding written
 table-more f l r = let e : upTo (λ i. f i ∷ []) r ≡ r = upTo-table f r in rw e at (write-more (λ i. f i ∷ []) l r)
+
+-- the same as a loop's turn has it: x is the buffer at the loop's head, v the entry
+pub table-turn : (f : ℕ → ℕ) (l x : List ℕ) (r v : ℕ) → x ≡ written l 0 (table f r) → v ≡ f r → set x r v ≡ written l 0 (table f (r + 1))
+table-turn f l x r v e q = ap (λ (t : List ℕ). set t r v) e ∙ ap (λ (k : ℕ). set (written l 0 (table f r)) r k) q ∙ table-more f l r

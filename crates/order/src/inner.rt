@@ -5,6 +5,7 @@ ghost use mathlib.Core.Path.{_≡_};
 ghost use Prim.Native.Nat.{_≤_};
 ghost use lib.ListN.{length};
 ghost use Rattle.law.specs.Limit.{particles};
+ghost use Rattle.order.specs.Order.{orderOf};
 ghost use Rattle.order.specs.Tight.{Tight};
 ghost use Rattle.order.specs.Left.{left, leftBy};
 
@@ -37,4 +38,28 @@ pub fn reverse_cuthill_mckee(
     tables::clear(mark);
     tables::clear(level);
     tables::clear(queue);
+}
+
+// The same with the order left in `queue`, for a caller that has no other list to put it in yet. What the other work lists hold afterwards is open.
+pub fn order_in_work(
+    row_offsets: &[u32],
+    cols: &[u32],
+    degrees: &mut [u32],
+    placed: &mut [u32],
+    mark: &mut [u32],
+    level: &mut [u32],
+    queue: &mut [u32],
+)
+    requires { ⌜ Tight (length (now queue)) (now «row_offsets») (now cols) ⌝ }
+    requires { ⌜ length (now queue) ≤ particles ⌝ }
+    requires { ⌜ length (now degrees) ≡ length (now queue) ⌝ }
+    requires { ⌜ length (now placed) ≡ length (now queue) ⌝ }
+    requires { ⌜ length (now mark) ≡ length (now queue) ⌝ }
+    requires { ⌜ length (now level) ≡ length (now queue) ⌝ }
+    ensures { λ _. ⌜ now (queue .exit) ≡ orderOf (length (now (queue .entry))) (now («row_offsets» .entry)) (now (cols .entry)) ⌝ }
+{
+    tables::clear(mark);
+    tables::fill_degrees(row_offsets, degrees);
+    place::place_all(row_offsets, cols, degrees, placed, mark, level, queue);
+    tables::reverse_into(placed, queue);
 }

@@ -15,7 +15,7 @@ use Rattle.law.specs.Refusal.{Test, unless, Rising, verdict, all-pass}
 use Rattle.law.specs.Promise.{Door}
 use Rattle.plane.specs.Lent.{flat}
 use Rattle.shape.specs.Rows.{at, Pattern}
-use Rattle.pattern.specs.Given.{patternRoom, blocksRoom, formed, pattern}
+use Rattle.shape.specs.Given.{patternRoom, blocksRoom, formed, pattern}
 use Rattle.values.specs.Dirichlet.{zeroBlock}
 use Rattle.pattern.specs.declared.Ran.{Ran}
 use Rattle.pattern.specs.declared.Ran.the-variants.{Refused, Done}

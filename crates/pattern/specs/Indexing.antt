@@ -12,7 +12,7 @@ use Rattle.law.specs.Refusal.{Test, unless, Rising, verdict, all-pass}
 use Rattle.law.specs.Promise.{Door}
 use Rattle.shape.specs.Rows.{at, Pattern}
 use Rattle.shape.specs.Index.{indexOf}
-use Rattle.pattern.specs.Given.{patternRoom, formed, pattern}
+use Rattle.shape.specs.Given.{patternRoom, formed, pattern}
 use Rattle.pattern.specs.declared.Found.{Found}
 use Rattle.pattern.specs.declared.Found.the-variants.{Refused, Slot}
 

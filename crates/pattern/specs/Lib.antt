@@ -1,4 +1,3 @@
-pub mod Given
 pub mod Indexing
 pub mod Clearing
 pub mod Multiplying

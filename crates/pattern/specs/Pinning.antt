@@ -14,7 +14,7 @@ use Rattle.law.specs.Room.{Room, enough, enough-is}
 use Rattle.law.specs.Refusal.{Test, unless, Rising, verdict, all-pass}
 use Rattle.law.specs.Promise.{Door}
 use Rattle.shape.specs.Rows.{at, Pattern}
-use Rattle.pattern.specs.Given.{patternRoom, blocksRoom, formed, pattern}
+use Rattle.shape.specs.Given.{patternRoom, blocksRoom, formed, pattern}
 use Rattle.values.specs.Dirichlet.{pinned}
 use Rattle.pattern.specs.declared.Ran.{Ran}
 use Rattle.pattern.specs.declared.Ran.the-variants.{Refused, Done}

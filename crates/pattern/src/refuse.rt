@@ -7,35 +7,14 @@ ghost use Rattle.law.specs.Every.{every};
 ghost use Rattle.law.specs.Limit.{particles, pairs as pairLimit};
 ghost use Rattle.law.specs.Room.{enough};
 ghost use Rattle.law.specs.Refusal.{verdict};
-ghost use Rattle.shape.specs.Rows.{at, Held};
 ghost use Rattle.build.specs.Pairs.{pairOk, pairOkAt};
-ghost use Rattle.pattern.specs.Given.{patternRoom, blocksRoom, formed};
+ghost use Rattle.shape.specs.Given.{blocksRoom};
 ghost use Rattle.pattern.specs.Indexing as indexing;
 ghost use Rattle.pattern.specs.Clearing as clearing;
 ghost use Rattle.pattern.specs.Multiplying as multiplying;
 ghost use Rattle.pattern.specs.Pinning as pinning;
 ghost use Rattle.pattern.specs.Building as building;
 ghost use Rattle.pattern.specs.FromPairs as frompairs;
-
-// Whether the pattern's lists are as long as its numbers say.
-pub fn pattern_room(n: usize, row_offsets: &[u32], cols: &[u32], diagonal: &[u32]) -> bool
-    requires { ⌜ n ≤ particles ⌝ }
-    ensures { λ r. ⌜ r ≡ enough true (patternRoom n (now («row_offsets» .entry)) (now (cols .entry)) (now (diagonal .entry))) ⌝ }
-{
-    if row_offsets.len() < n + 1 {
-        return false;
-    }
-    (law::wide(row_offsets[n]) <= cols.len()) & (n <= diagonal.len())
-}
-
-// Whether the pattern is well formed, once its lists have room.
-pub fn pattern_formed(n: usize, row_offsets: &[u32], cols: &[u32], diagonal: &[u32]) -> bool
-    requires { ⌜ Held n (at (now «row_offsets») n) (now «row_offsets») (now cols) (now diagonal) ⌝ }
-    ensures { λ r. ⌜ r ≡ formed n (now («row_offsets» .entry)) (now (cols .entry)) (now (diagonal .entry)) ⌝ }
-{
-    let m = law::wide(row_offsets[n]);
-    shape::formed::well_formed(n, m, row_offsets, cols, diagonal)
-}
 
 // For a call on one row of a pattern.
 pub fn row(n: usize, row_offsets: &[u32], cols: &[u32], diagonal: &[u32], row: usize) -> u8
@@ -44,13 +23,13 @@ pub fn row(n: usize, row_offsets: &[u32], cols: &[u32], diagonal: &[u32], row: u
     if law::PARTICLES < n {
         return 1;
     }
-    if !pattern_room(n, row_offsets, cols, diagonal) {
+    if !shape::given::pattern_room(n, row_offsets, cols, diagonal) {
         return 3;
     }
     if n <= row {
         return 4;
     }
-    if !pattern_formed(n, row_offsets, cols, diagonal) {
+    if !shape::given::pattern_formed(n, row_offsets, cols, diagonal) {
         return 5;
     }
     0
@@ -70,13 +49,13 @@ pub fn clearing(n: usize, row_offsets: &[u32], cols: &[u32], diagonal: &[u32], b
     if law::PARTICLES < n {
         return 1;
     }
-    if !pattern_room(n, row_offsets, cols, diagonal) {
+    if !shape::given::pattern_room(n, row_offsets, cols, diagonal) {
         return 3;
     }
     if !blocks_room(n, row_offsets, blocks) {
         return 3;
     }
-    if !pattern_formed(n, row_offsets, cols, diagonal) {
+    if !shape::given::pattern_formed(n, row_offsets, cols, diagonal) {
         return 5;
     }
     0
@@ -104,13 +83,13 @@ pub fn multiplying(
     if law::PARTICLES < n {
         return 1;
     }
-    if !pattern_room(n, row_offsets, cols, diagonal) {
+    if !shape::given::pattern_room(n, row_offsets, cols, diagonal) {
         return 3;
     }
     if !values_room(n, row_offsets, blocks, x, out) {
         return 3;
     }
-    if !pattern_formed(n, row_offsets, cols, diagonal) {
+    if !shape::given::pattern_formed(n, row_offsets, cols, diagonal) {
         return 5;
     }
     0
@@ -129,7 +108,7 @@ pub fn pinning(
     if law::PARTICLES < n {
         return 1;
     }
-    if !pattern_room(n, row_offsets, cols, diagonal) {
+    if !shape::given::pattern_room(n, row_offsets, cols, diagonal) {
         return 3;
     }
     if !blocks_room(n, row_offsets, blocks) {
@@ -138,7 +117,7 @@ pub fn pinning(
     if n <= row {
         return 4;
     }
-    if !pattern_formed(n, row_offsets, cols, diagonal) {
+    if !shape::given::pattern_formed(n, row_offsets, cols, diagonal) {
         return 5;
     }
     0

@@ -4,3 +4,4 @@ pub mod Phases
 pub mod Made
 pub mod Index
 pub mod Row
+pub mod Given

@@ -1,6 +1,6 @@
 -- `pattern::refuse::blocks_room` meets its contract. Assumes nothing.
 use Rattle.law.specs.Room.{enough}
-use Rattle.pattern.specs.Given.{blocksRoom}
+use Rattle.shape.specs.Given.{blocksRoom}
 use borrow.Author.Needs.{needs}
 use Rattle.pattern.proofs.refuse.blocks_room.Statement.{statement}
 use Rattle.pattern.proofs.refuse.blocks_room.Tie as tie

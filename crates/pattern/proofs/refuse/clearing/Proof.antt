@@ -2,7 +2,7 @@
 use borrow.Author.Tests.{le-leb, lt-leb}
 use Rattle.law.specs.Refusal.{goes-on, stops, ends}
 use Rattle.law.specs.Truth.{refused, passed}
-use Rattle.pattern.specs.Given.{held}
+use Rattle.shape.specs.Given.{held}
 use Rattle.pattern.specs.Clearing.{refusals}
 use borrow.Author.Needs.{needs}
 use Rattle.pattern.proofs.refuse.clearing.Statement.{statement}

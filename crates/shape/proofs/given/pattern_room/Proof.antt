@@ -1,10 +1,10 @@
--- `pattern::refuse::pattern_room` meets its contract. Assumes nothing.
+-- `shape::given::pattern_room` meets its contract. Assumes nothing.
 use borrow.Author.Tests.{le-leb, lt-leb}
 use Rattle.law.specs.Room.{enough}
-use Rattle.pattern.specs.Given.{patternRoom}
+use Rattle.shape.specs.Given.{patternRoom}
 use borrow.Author.Needs.{needs}
-use Rattle.pattern.proofs.refuse.pattern_room.Statement.{statement}
-use Rattle.pattern.proofs.refuse.pattern_room.Tie as tie
+use Rattle.shape.proofs.given.pattern_room.Statement.{statement}
+use Rattle.shape.proofs.given.pattern_room.Tie as tie
 
 add-if1 : tie.Need-add-if1
 add-if1 c = search needs

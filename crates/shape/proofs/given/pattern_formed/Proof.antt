@@ -1,8 +1,8 @@
--- `pattern::refuse::pattern_formed` meets its contract. Assumes nothing.
-use Rattle.pattern.specs.Given.{formed}
+-- `shape::given::pattern_formed` meets its contract. Assumes nothing.
+use Rattle.shape.specs.Given.{formed}
 use borrow.Author.Needs.{needs}
-use Rattle.pattern.proofs.refuse.pattern_formed.Statement.{statement}
-use Rattle.pattern.proofs.refuse.pattern_formed.Tie as tie
+use Rattle.shape.proofs.given.pattern_formed.Statement.{statement}
+use Rattle.shape.proofs.given.pattern_formed.Tie as tie
 
 mul-wide : tie.Need-mul-wide
 mul-wide c = search needs

@@ -1,0 +1,65 @@
+-- `envelope::refuse::planning` meets its contract. Assumes nothing.
+use borrow.Author.Tests.{le-leb, lt-leb}
+use Rattle.law.specs.Refusal.{goes-on, stops, ends}
+use Rattle.law.specs.Truth.{refused, passed}
+use Rattle.shape.specs.Given.{held}
+use Rattle.envelope.specs.Planning.{early}
+use borrow.Author.Needs.{needs}
+use Rattle.envelope.proofs.refuse.planning.Statement.{statement}
+use Rattle.envelope.proofs.refuse.planning.Tie as tie
+
+returns : tie.Need-returns
+unfolding early
+returns c = stops _ _ _ (lt-leb _ _ (c .if1 .taken))
+
+pattern-room-requires : tie.Need-pattern-room-requires
+pattern-room-requires c κs = search needs
+
+returns-2 : tie.Need-returns-2
+unfolding early
+returns-2 c =
+    goes-on _ _ _ _ (le-leb _ _ (c .before .before .if1 .left))
+    (stops _ _ _ (refused _ _ (c .before .pattern-room .ensures) (c .if2 .taken)))
+
+plan-room-requires : tie.Need-plan-room-requires
+plan-room-requires c κs = search needs
+
+returns-3 : tie.Need-returns-3
+unfolding early
+returns-3 c =
+    goes-on _ _ _ _ (le-leb _ _ (c .before .before .before .before .if1 .left))
+    (goes-on _ _ _ _ (passed _ _ (c .before .before .before .pattern-room .ensures) (c .before .before .if2 .left))
+    (stops _ _ _ (refused _ _ (c .before .plan-room .ensures) (c .if3 .taken))))
+
+pattern-formed-requires : tie.Need-pattern-formed-requires
+pattern-formed-requires c κs = held _ _ _ _ (passed _ _ (c .before .before .before .pattern-room .ensures) (c .before .before .if2 .left))
+
+returns-4 : tie.Need-returns-4
+unfolding early
+returns-4 c =
+    goes-on _ _ _ _ (le-leb _ _ (c .before .before .before .before .before .before .if1 .left))
+    (goes-on _ _ _ _ (passed _ _ (c .before .before .before .before .before .pattern-room .ensures) (c .before .before .before .before .if2 .left))
+    (goes-on _ _ _ _ (passed _ _ (c .before .before .before .plan-room .ensures) (c .before .before .if3 .left))
+    (stops _ _ _ (refused _ _ (c .before .pattern-formed .ensures) (c .if4 .taken)))))
+
+returns-5 : tie.Need-returns-5
+unfolding early
+returns-5 c =
+    goes-on _ _ _ _ (le-leb _ _ (c .before .before .before .before .before .before .if1 .left))
+    (goes-on _ _ _ _ (passed _ _ (c .before .before .before .before .before .pattern-room .ensures) (c .before .before .before .before .if2 .left))
+    (goes-on _ _ _ _ (passed _ _ (c .before .before .before .plan-room .ensures) (c .before .before .if3 .left))
+    (goes-on _ _ _ _ (passed _ _ (c .before .pattern-formed .ensures) (c .if4 .left))
+    ends)))
+
+pub planning-spec : {M : Type 1} → statement M
+planning-spec =
+    tie.close
+    (tie.spec
+    returns
+    pattern-room-requires
+    returns-2
+    plan-room-requires
+    returns-3
+    pattern-formed-requires
+    returns-4
+    returns-5)
