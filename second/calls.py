@@ -22,6 +22,8 @@ LARGER = [
 
 VALUES = [0.0, -0.0, 1.0, -1.0, 0.1, 3e38, -3e38, 1e-45, 1e-39, -7.25, 1e20, math.inf, -math.inf, math.nan]
 
+TOLERANCES = [0.0, -0.0, 1e-45, 0.001, 0.5, 3e38]
+
 
 def pick(draw, items):
     return items[int(draw.random() * len(items))]
@@ -56,6 +58,8 @@ def accepted(draw, word, graph, rest):
         call["row"] = int(draw.random() * n)
     if "col" in numbers:
         call["col"] = pick(draw, [*range(n + 1), LARGEST])
+    if "tolerance" in numbers:
+        call |= {"max_iterations": pick(draw, [0, 1, 2, 5, 20]), "tolerance": pick(draw, TOLERANCES)}
     call |= {name: call.get(name, []) for name in lists}
     for name, need in rules.needs(call).items():
         if name in lists:
@@ -72,3 +76,14 @@ def at_the_limits(draw):
     pairs = accepted(draw, "pattern_from_pairs", (2, [(0, 1)] * rules.PAIRS), 0)
     # Zeros keep the line short.
     yield pairs | {name: [0] * len(pairs[name]) for name in ("cols", "work")}
+    yield from envelopes_at_the_limit(draw)
+
+
+def envelopes_at_the_limit(draw):
+    """Of 16,384 entries, and of each of the next three numbers: all pairs of 90 have 16,290, a chain of k has 7k - 4."""
+    complete = [(a, b) for b in range(90) for a in range(b)]
+    for chain, single in (14, 0), (12, 5), (0, 32), (11, 8):
+        links = [(90 + i, 91 + i) for i in range(chain - 1)]
+        call = accepted(draw, "plan", (90 + chain + single, complete + links), 0)
+        # Ones keep the line short.
+        yield call | {name: [1] * len(call[name]) for name in rules.PLAN + rules.WORK}

@@ -1,6 +1,7 @@
 """Damaged input: faults in every list and number of every call, alone and several at once."""
 
 import copy
+import math
 import random
 
 import calls
@@ -86,6 +87,9 @@ def faults_of_numbers(call):
         yield from (number("count", value) for value in (call["count"] + 1, rules.PAIRS, rules.PAIRS + 1, LARGEST))
     if "row" in call:
         yield from (number("row", value) for value in (n, n + 1, LARGEST))
+    if "tolerance" in call:
+        yield from (number("max_iterations", value) for value in (rules.ITERATIONS, rules.ITERATIONS + 1, LARGEST))
+        yield from (number("tolerance", value) for value in (-0.0, -1e-45, -1.0, math.inf, -math.inf, math.nan))
 
 
 def faults_of_lengths(call):

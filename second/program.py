@@ -1,22 +1,30 @@
 #!/usr/bin/env python3
-"""The block matrix of document 01 a second time. `answer`: case lines in, answer lines out. `cases SEED`: damaged input."""
+"""The block matrix, the plan and the conjugate gradient of document 01 a second time. `answer`: case lines in, answer lines out. `cases SEED`: damaged input."""
 
 import sys
 
 sys.dont_write_bytecode = True
 
 import damage
+import gradient
 import matrix
+import plan
 import rules
 import text
+
+
+WORK = matrix.WORK | {"plan": plan.plan} | gradient.WORK
 
 
 def answer(line):
     call = text.read(line)
     refused = rules.refusal(call)
+    # Planning's 7 is the one refusal that changes a list.
+    if refused == 7:
+        plan.clear_work(call)
     if refused:
         return text.answer_line(call, ["refused", refused])
-    number = matrix.WORK[call["word"]](call)
+    number = WORK[call["word"]](call)
     return text.answer_line(call, ["done"] if number is None else ["done", number])
 
 

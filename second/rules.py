@@ -1,7 +1,17 @@
-"""Document 01's refusals, as far as the block matrix meets them."""
+"""Document 01's refusals, as far as the block matrix, planning and the conjugate gradient meet them."""
+
+import math
+
+import plan
 
 PARTICLES = 1024
 PAIRS = 4096
+ENVELOPE = 16384
+ITERATIONS = 4096
+
+PLAN = ["perm", "inv_perm", "first", "row_start"]
+WORK = ["degrees", "placed", "mark", "level", "queue"]
+VECTORS = ["b", "x", "residual", "direction", "a_direction", "z"]
 
 
 def needs(call):
@@ -14,7 +24,9 @@ def needs(call):
         return starts | {"blocks": 4 * room, "work": 2 * count}
     blocks = call["row_offsets"][n]
     starts = {"row_offsets": n + 1, "cols": blocks, "diagonal": n}
-    return starts | {"blocks": 4 * blocks, "x": 2 * n, "out": 2 * n}
+    planning = dict.fromkeys(PLAN + WORK, n) | {"first": 2 * n, "row_start": 2 * n + 1}
+    solving = dict.fromkeys(VECTORS, 2 * n) | {"preconditioner": 4 * n}
+    return starts | {"blocks": 4 * blocks, "out": 2 * n} | solving | planning
 
 
 def too_many_particles(call):
@@ -59,8 +71,19 @@ def well_formed(call):
     return all((c, r) in stored for r, c in stored)
 
 
+def too_wide(call):
+    return call["word"] == "plan" and plan.plan_of(plan.joined(call))[-1][-1] > ENVELOPE
+
+
+def out_of_range(call):
+    if "tolerance" not in call:
+        return False
+    tolerance = call["tolerance"]
+    return not (math.isfinite(tolerance) and tolerance >= 0) or call["max_iterations"] > ITERATIONS
+
+
 # Lowest number first; a later test may read what an earlier one has found to be there.
-TABLE = [(1, too_many_particles), (2, too_many_pairs), (3, too_short), (4, outside), (5, misformed)]
+TABLE = [(1, too_many_particles), (2, too_many_pairs), (3, too_short), (4, outside), (5, misformed), (7, too_wide), (8, out_of_range)]
 
 
 def refusal(call):

@@ -3,10 +3,15 @@
 import math
 import struct
 
-FLOATS = {"blocks", "x", "out"}
+from rules import PLAN, VECTORS, WORK
+
+FLOATS = {"blocks", "out", "preconditioner", "tolerance", "floats", *VECTORS}
 PATTERN = ["row_offsets", "cols", "diagonal"]
 
-# The plain numbers, the lists, and those of the lists that the call may change.
+# How a solve ended: its outcome's number and count, and the outcome's floats.
+TOLD = ["outcome", "floats"]
+
+# The plain numbers, the lists, and those of the lists that the call may change; behind them what it tells, nothing of it in a refusal.
 SHAPES = {
     "from_pairs": (["n", "count"], ["pairs", *PATTERN, "blocks", "work"], [*PATTERN, "blocks", "work"]),
     "pattern_from_pairs": (["n", "count"], ["pairs", *PATTERN, "work"], [*PATTERN, "work"]),
@@ -15,6 +20,9 @@ SHAPES = {
     "clear_values": (["n"], [*PATTERN, "blocks"], ["blocks"]),
     "mul": (["n"], [*PATTERN, "blocks", "x", "out"], ["out"]),
     "make_dirichlet": (["n", "row"], [*PATTERN, "blocks"], ["blocks"]),
+    "plan": (["n"], [*PATTERN, *PLAN, *WORK], [*PLAN, *WORK]),
+    "update_preconditioner": (["n"], [*PATTERN, "blocks", "preconditioner"], ["preconditioner"]),
+    "conjugate_gradient": (["n", "max_iterations", "tolerance"], [*PATTERN, "blocks", "preconditioner", *VECTORS], [*VECTORS[1:], *TOLD]),
 }
 
 
@@ -26,6 +34,10 @@ def float_of(token):
     if len(token) != 9 or token[0] != "x":
         raise ValueError(f"not a float: {token}")
     return struct.unpack(">f", bytes.fromhex(token[1:]))[0]
+
+
+def item_of(name):
+    return float_of if name in FLOATS else int
 
 
 def token_of(item):
@@ -42,11 +54,10 @@ def read(line):
     numbers, names, _ = SHAPES[word]
     call = {"word": word}
     at = len(numbers)
-    call.update(zip(numbers, map(int, tokens[:at])))
+    call.update((name, item_of(name)(token)) for name, token in zip(numbers, tokens[:at]))
     for name in names:
         length, at = int(tokens[at]), at + 1
-        item = float_of if name in FLOATS else int
-        call[name] = [item(token) for token in tokens[at : at + length]]
+        call[name] = [item_of(name)(token) for token in tokens[at : at + length]]
         at += length
     if at != len(tokens):
         raise ValueError(f"not a case: {line}")
@@ -59,7 +70,7 @@ def listed(items, token):
 
 def case_line(call):
     numbers, names, _ = SHAPES[call["word"]]
-    tokens = [call["word"], *(str(call[name]) for name in numbers)]
+    tokens = [call["word"], *(token_of(call[name]) for name in numbers)]
     for name in names:
         tokens += listed(call[name], token_of)
     return " ".join(tokens)
@@ -69,5 +80,5 @@ def answer_line(call, verdict):
     """The verdict, then every list that the call may change, as it stands now."""
     tokens = [str(word) for word in verdict]
     for name in SHAPES[call["word"]][2]:
-        tokens += listed(call[name], answer_token)
+        tokens += listed(call.get(name, []), answer_token)
     return " ".join(tokens)

@@ -1,12 +1,12 @@
-//! The block matrix's calls: accepted ones held against the Rust, damaged ones against the second
-//! program.
+//! Calls: the block matrix's accepted ones held against the Rust, damaged ones of all against the
+//! second program.
 
 use crate::damage::damage;
 use crate::doors;
 use crate::judge::Judged;
 use crate::second;
 use oracle::blocks;
-use oracle::call::{Call, Items, Left, Operation, OPERATIONS};
+use oracle::call::{Call, Items, Left, Operation, MATRIX};
 use oracle::calls::accepted;
 use oracle::draw::Draw;
 use oracle::graphs;
@@ -21,17 +21,14 @@ const DAMAGED_SIZE: usize = 6;
 const WHOLE_EVERY: usize = 10;
 
 pub fn compare(draw: &mut Draw) -> usize {
-    let whole: usize = OPERATIONS
-        .into_iter()
-        .map(|it| compare_whole(draw, it))
-        .sum();
+    let whole: usize = MATRIX.into_iter().map(|it| compare_whole(draw, it)).sum();
     whole + compare_damaged(draw)
 }
 
 /// Bit for bit, but any NaN for any NaN.
-fn same(operation: Operation, a: &Left, b: &Left) -> bool {
+pub fn same(operation: Operation, a: &Left, b: &Left) -> bool {
     let nan = |bits: u32| f32::from_bits(bits).is_nan();
-    let kinds = &operation.lists()[operation.first_changed()..];
+    let kinds = operation.answered();
     let same_lists = kinds.iter().enumerate().all(|(at, &kind)| {
         let (a, b) = (&a.lists[at], &b.lists[at]);
         let float = kind == Items::Float;
@@ -66,17 +63,20 @@ fn damaged(draw: &mut Draw, operation: Operation, turn: usize) -> Call {
 }
 
 fn compare_damaged(draw: &mut Draw) -> usize {
-    let calls: Vec<Call> = OPERATIONS
+    let calls = MATRIX
         .into_iter()
         .flat_map(|operation| (0..DAMAGED).map(move |turn| (operation, turn)))
         .map(|(operation, turn)| damaged(draw, operation, turn))
         .collect();
+    beside_second("damaged calls", calls)
+}
+
+/// The calls' answers beside the second program's, with how many were refused by each number.
+pub fn beside_second(word: &'static str, calls: Vec<Call>) -> usize {
     let answers = match second::answers(calls.iter().map(Call::line).collect()) {
         Ok(answers) => answers,
         Err(problem) => {
-            println!(
-                "damaged calls: not compared, since the second program did not run ({problem})"
-            );
+            println!("{word}: not compared, since the second program did not run ({problem})");
             return 0;
         }
     };
@@ -85,8 +85,8 @@ fn compare_damaged(draw: &mut Draw) -> usize {
         calls.len(),
         "the second program left calls unanswered"
     );
-    let mut judged = Judged::by("damaged calls", "second");
-    let mut refused = [0; 6];
+    let mut judged = Judged::by(word, "second");
+    let mut refused = [0; 9];
     for (call, answer) in calls.iter().zip(answers) {
         let left = doors::left(call);
         refused[usize::from(left.refused)] += 1;
@@ -95,8 +95,13 @@ fn compare_damaged(draw: &mut Draw) -> usize {
             [call.line(), line.clone(), answer.clone()]
         });
     }
-    let [done, one, two, three, four, five] = refused;
-    judged.close(&format!(
-        " from the second program: {done} done; refused by 1: {one}, 2: {two}, 3: {three}, 4: {four}, 5: {five}"
-    ))
+    let numbers = refused.iter().enumerate().skip(1);
+    let given = numbers.filter(|(_, &count)| count > 0);
+    let given: Vec<String> = given.map(|(no, count)| format!("{no}: {count}")).collect();
+    let given = match given.join(", ") {
+        none if none.is_empty() => "none refused".to_string(),
+        some => format!("refused by {some}"),
+    };
+    let done = refused[0];
+    judged.close(&format!(" from the second program: {done} done; {given}"))
 }

@@ -1,6 +1,6 @@
-//! The proved doors of the block matrix: the C functions of the crate `boundary`. A list is a pointer
-//! and a length.
+//! The proved doors: the C functions of the crate `boundary`. A list is a pointer and a length.
 
+use crate::endings;
 use oracle::call::Operation::*;
 use oracle::call::{Call, Left};
 
@@ -96,6 +96,46 @@ extern "C" {
         blocks: *mut f32,
         blocks_len: usize,
     ) -> u8;
+    fn bracket_plan(
+        n: usize,
+        row_offsets: *const u32,
+        row_offsets_len: usize,
+        cols: *const u32,
+        cols_len: usize,
+        diagonal: *const u32,
+        diagonal_len: usize,
+        perm: *mut u32,
+        perm_len: usize,
+        inv_perm: *mut u32,
+        inv_perm_len: usize,
+        first: *mut u32,
+        first_len: usize,
+        row_start: *mut u32,
+        row_start_len: usize,
+        degrees: *mut u32,
+        degrees_len: usize,
+        placed: *mut u32,
+        placed_len: usize,
+        mark: *mut u32,
+        mark_len: usize,
+        level: *mut u32,
+        level_len: usize,
+        queue: *mut u32,
+        queue_len: usize,
+    ) -> u8;
+    fn bracket_update_preconditioner(
+        n: usize,
+        row_offsets: *const u32,
+        row_offsets_len: usize,
+        cols: *const u32,
+        cols_len: usize,
+        diagonal: *const u32,
+        diagonal_len: usize,
+        blocks: *const f32,
+        blocks_len: usize,
+        preconditioner: *mut f32,
+        preconditioner_len: usize,
+    ) -> u8;
 }
 
 /// What a refused call must leave in its slot.
@@ -128,6 +168,16 @@ pub fn made(call: &mut Call) -> (u8, u32) {
             (MakeDirichlet, &[n, row], [row_offsets, cols, diagonal, blocks]) => {
                 lend!(bracket_make_dirichlet(n; row_offsets, cols, diagonal; row; blocks))
             }
+            (Plan, &[n], [r, c, d, perm, inv_perm, first, row_start, work @ ..]) => {
+                let [degrees, placed, mark, level, queue] = work else {
+                    unreachable!("planning has five work lists")
+                };
+                lend!(bracket_plan(n; r, c, d, perm, inv_perm, first, row_start, degrees, placed, mark, level, queue;;))
+            }
+            (UpdatePreconditioner, &[n], [row_offsets, cols, diagonal, blocks, preconditioner]) => {
+                lend!(bracket_update_preconditioner(n; row_offsets, cols, diagonal, blocks, preconditioner;;))
+            }
+            (ConjugateGradient, ..) => return (endings::made(call).0, slot),
             _ => unreachable!("a call has the numbers and lists of its operation"),
         }
     };
@@ -137,7 +187,15 @@ pub fn made(call: &mut Call) -> (u8, u32) {
 /// What the proved call leaves. A list that it is only shown must stay as it is.
 pub fn left(call: &Call) -> Left {
     let mut after = call.clone();
-    let (refused, slot) = made(&mut after);
+    let mut slot = UNTOUCHED;
+    let (refused, told) = match call.operation {
+        ConjugateGradient => endings::left(&mut after),
+        _ => {
+            let (refused, found) = made(&mut after);
+            slot = found;
+            (refused, Vec::new())
+        }
+    };
     let first_changed = call.operation.first_changed();
     assert!(
         after.lists[..first_changed] == call.lists[..first_changed],
@@ -147,12 +205,13 @@ pub fn left(call: &Call) -> Left {
     let number = match call.operation {
         BlockIndex | DiagonalIndex => Some(slot as usize),
         FromPairs | PatternFromPairs if refused == 0 => Some(after.lists[1][call.n()] as usize),
+        Plan if refused == 0 => Some(after.lists[6][2 * call.n()] as usize),
         _ => None,
     };
     Left {
         refused,
         // A slot that a refused call wrote is shown, and differs.
         number: number.filter(|_| refused == 0 || slot != UNTOUCHED),
-        lists: after.lists.split_off(first_changed),
+        lists: [after.lists.split_off(first_changed), told].concat(),
     }
 }

@@ -54,6 +54,30 @@ extern "C" {
         diagonal: *const u32,
         diagonal_len: usize,
     ) -> bool;
+    fn inside_plan(
+        row_offsets: *const u32,
+        row_offsets_len: usize,
+        cols: *const u32,
+        cols_len: usize,
+        perm: *mut u32,
+        perm_len: usize,
+        inv_perm: *mut u32,
+        inv_perm_len: usize,
+        first: *mut u32,
+        first_len: usize,
+        row_start: *mut u32,
+        row_start_len: usize,
+        degrees: *mut u32,
+        degrees_len: usize,
+        placed: *mut u32,
+        placed_len: usize,
+        mark: *mut u32,
+        mark_len: usize,
+        level: *mut u32,
+        level_len: usize,
+        queue: *mut u32,
+        queue_len: usize,
+    ) -> usize;
     fn inside_block_index(
         row_offsets: *const u32,
         row_offsets_len: usize,
@@ -62,6 +86,40 @@ extern "C" {
         row: usize,
         col: u32,
     ) -> u32;
+    fn inside_update_preconditioner(
+        n: usize,
+        diagonal: *const u32,
+        diagonal_len: usize,
+        blocks: *const f32,
+        blocks_len: usize,
+        preconditioner: *mut f32,
+        preconditioner_len: usize,
+    );
+    fn inside_conjugate_gradient(
+        n: usize,
+        row_offsets: *const u32,
+        row_offsets_len: usize,
+        cols: *const u32,
+        cols_len: usize,
+        blocks: *const f32,
+        blocks_len: usize,
+        preconditioner: *const f32,
+        preconditioner_len: usize,
+        b: *const f32,
+        b_len: usize,
+        tolerance: f32,
+        limit: usize,
+        x: *mut f32,
+        x_len: usize,
+        residual: *mut f32,
+        residual_len: usize,
+        direction: *mut f32,
+        direction_len: usize,
+        a_direction: *mut f32,
+        a_direction_len: usize,
+        z: *mut f32,
+        z_len: usize,
+    ) -> usize;
 }
 
 const SHAPE: &str = "a call has the numbers and lists of its operation";
@@ -104,10 +162,45 @@ pub fn well_formed(call: &mut Call) {
     }
 }
 
+pub fn plan(call: &mut Call) {
+    match &mut call.lists[..] {
+        [r, c, _, perm, inv_perm, first, row_start, degrees, placed, mark, level, queue] => unsafe {
+            black_box(
+                lend!(inside_plan(; r, c, perm, inv_perm, first, row_start, degrees, placed, mark, level, queue;;)),
+            );
+        },
+        _ => unreachable!("{SHAPE}"),
+    }
+}
+
 pub fn block_index(call: &mut Call) {
     match (&call.numbers[..], &mut call.lists[..]) {
         (&[_, row, col], [row_offsets, cols, _]) => unsafe {
             black_box(lend!(inside_block_index(; row_offsets, cols; row, col as u32;)));
+        },
+        _ => unreachable!("{SHAPE}"),
+    }
+}
+
+pub fn update_preconditioner(call: &mut Call) {
+    match (&call.numbers[..], &mut call.lists[..]) {
+        (&[n], [_, _, diagonal, blocks, preconditioner]) => unsafe {
+            lend!(inside_update_preconditioner(n; diagonal, blocks, preconditioner;;));
+        },
+        _ => unreachable!("{SHAPE}"),
+    }
+}
+
+pub fn conjugate_gradient(call: &mut Call) {
+    match (&call.numbers[..], &mut call.lists[..]) {
+        (
+            &[n, limit, tolerance],
+            [r, c, _, blocks, p, b, x, residual, direction, a_direction, z],
+        ) => unsafe {
+            let tolerance = f32::from_bits(tolerance as u32);
+            black_box(
+                lend!(inside_conjugate_gradient(n; r, c, blocks, p, b; tolerance, limit; x, residual, direction, a_direction, z)),
+            );
         },
         _ => unreachable!("{SHAPE}"),
     }

@@ -7,14 +7,19 @@ mod buffers;
 mod calls;
 mod damage;
 mod doors;
+mod endings;
+mod ends;
+mod gradients;
 mod inside;
 mod judge;
 mod planes;
+mod plans;
 mod proved;
 mod roots;
 mod rust;
 mod second;
 mod sides;
+mod starts;
 mod times;
 
 use judge::compare;
@@ -37,8 +42,11 @@ fn main() -> ExitCode {
     };
     let draw = &mut Draw::new(SEED);
     let numbers = root(sides, draw) + plane(sides, draw) + lent(sides, draw);
-    let differences = numbers + calls::compare(draw);
+    let differences =
+        numbers + calls::compare(draw) + plans::compare(draw) + gradients::compare(draw);
     times::report(draw);
+    plans::times(draw);
+    gradients::times(draw);
     if differences == 0 {
         ExitCode::SUCCESS
     } else {

@@ -17,7 +17,7 @@ const RUN: Duration = Duration::from_millis(2);
 const TURN: usize = 0;
 
 /// Microseconds to a call, the best of several runs.
-fn micros(mut call: impl FnMut()) -> f64 {
+pub fn micros(mut call: impl FnMut()) -> f64 {
     let mut run = |calls: u32| {
         let start = Instant::now();
         (0..calls).for_each(|_| call());
@@ -51,7 +51,7 @@ pub fn report(draw: &mut Draw) {
 }
 
 /// An accepted call whose lists are no longer than they must be.
-fn exact(draw: &mut Draw, operation: Operation, graph: &Graph) -> Call {
+pub fn exact(draw: &mut Draw, operation: Operation, graph: &Graph) -> Call {
     let mut call = accepted(draw, operation, graph, TURN);
     let needs = call.needs();
     for (list, need) in call.lists.iter_mut().zip(needs) {

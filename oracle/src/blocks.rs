@@ -1,11 +1,14 @@
-//! The Rust's block matrix over lists: what an accepted call leaves.
+//! The Rust over lists: what an accepted call leaves. Its block matrix is here, its plan and its
+//! conjugate gradient next door.
 
 use crate::call::{building_needs, Call, Left, Operation};
+use crate::gradient;
 use crate::math::{Matrix, Vector};
+use crate::plan;
 use crate::soft_fem::soft_fem_sparse::BlockMatrix;
 
 /// The Rust's own matrix, for calls without a line.
-pub struct Blocks(BlockMatrix);
+pub struct Blocks(pub(crate) BlockMatrix);
 
 impl Blocks {
     pub fn from_pairs(n: usize, pairs: &[u32]) -> Self {
@@ -51,11 +54,11 @@ impl Blocks {
     }
 }
 
-fn block(bits: &[u32]) -> Matrix {
+pub(crate) fn block(bits: &[u32]) -> Matrix {
     Matrix::new(vector(&bits[..2]), vector(&bits[2..]))
 }
 
-fn block_bits(block: &Matrix) -> [u32; 4] {
+pub(crate) fn block_bits(block: &Matrix) -> [u32; 4] {
     let (c0, c1) = (block.col(0), block.col(1));
     [c0.x, c0.y, c1.x, c1.y].map(f32::to_bits)
 }
@@ -69,13 +72,13 @@ pub fn vectors(bits: &[u32], n: usize) -> Vec<Vector> {
     bits.chunks_exact(2).take(n).map(vector).collect()
 }
 
-fn vector_bits(vectors: &[Vector]) -> Vec<u32> {
+pub(crate) fn vector_bits(vectors: &[Vector]) -> Vec<u32> {
     let bits = |v: &Vector| [v.x.to_bits(), v.y.to_bits()];
     vectors.iter().flat_map(bits).collect()
 }
 
 /// `front`, then zeros up to `need`, over the start of what was lent; its rest stays.
-fn over(lent: &[u32], front: &[u32], need: usize) -> Vec<u32> {
+pub(crate) fn over(lent: &[u32], front: &[u32], need: usize) -> Vec<u32> {
     let mut list = lent.to_vec();
     list[..front.len()].copy_from_slice(front);
     list[front.len()..need].fill(0);
@@ -89,10 +92,13 @@ pub fn left(call: &Call) -> Left {
         Operation::BlockIndex | Operation::DiagonalIndex => found(call),
         Operation::ClearValues | Operation::MakeDirichlet => revalued(call),
         Operation::Mul => multiplied(call),
+        Operation::Plan => planned(call),
+        Operation::UpdatePreconditioner => gradient::updated(call, &matrix(call, &call.lists[3])),
+        Operation::ConjugateGradient => gradient::solved(call, &matrix(call, &call.lists[3])),
     }
 }
 
-fn done(number: Option<usize>, lists: Vec<Vec<u32>>) -> Left {
+pub(crate) fn done(number: Option<usize>, lists: Vec<Vec<u32>>) -> Left {
     Left {
         refused: 0,
         number,
@@ -139,6 +145,11 @@ fn revalued(call: &Call) -> Left {
     }
     let blocks = matrix.blocks();
     done(None, vec![over(&call.lists[3], &blocks, blocks.len())])
+}
+
+/// The Rust walks over the pattern's blocks without looking at them.
+fn planned(call: &Call) -> Left {
+    plan::left(call, &matrix(call, &vec![0; 4 * call.lists[1].len()]))
 }
 
 fn multiplied(call: &Call) -> Left {

@@ -1,4 +1,4 @@
-//! A call of the block matrix as data: what it takes, what it may change, and what it leaves.
+//! A call as data: what it takes, what it may change, and what it leaves.
 
 /// What a list holds. Either way it is kept as 32 bits to an item.
 #[derive(Clone, Copy, PartialEq, Eq)]
@@ -16,12 +16,16 @@ pub enum Operation {
     ClearValues,
     Mul,
     MakeDirichlet,
+    Plan,
+    UpdatePreconditioner,
+    ConjugateGradient,
 }
 
 use Items::{Float, Whole};
 use Operation::*;
 
-pub const OPERATIONS: [Operation; 7] = [
+/// The block matrix's.
+pub const MATRIX: [Operation; 7] = [
     FromPairs,
     PatternFromPairs,
     BlockIndex,
@@ -32,6 +36,12 @@ pub const OPERATIONS: [Operation; 7] = [
 ];
 
 impl Operation {
+    pub fn all() -> impl Iterator<Item = Self> {
+        MATRIX
+            .into_iter()
+            .chain([Plan, UpdatePreconditioner, ConjugateGradient])
+    }
+
     pub fn word(self) -> &'static str {
         match self {
             FromPairs => "from_pairs",
@@ -41,15 +51,19 @@ impl Operation {
             ClearValues => "clear_values",
             Mul => "mul",
             MakeDirichlet => "make_dirichlet",
+            Plan => "plan",
+            UpdatePreconditioner => "update_preconditioner",
+            ConjugateGradient => "conjugate_gradient",
         }
     }
 
-    /// How many plain numbers it takes: n, then the pair count, or the row and its column.
+    /// How many plain numbers it takes: n, then the pair count, or the row and its column, or the
+    /// iteration limit and the tolerance's bits.
     pub fn numbers(self) -> usize {
         match self {
-            ClearValues | Mul => 1,
+            ClearValues | Mul | Plan | UpdatePreconditioner => 1,
             FromPairs | PatternFromPairs | DiagonalIndex | MakeDirichlet => 2,
-            BlockIndex => 3,
+            BlockIndex | ConjugateGradient => 3,
         }
     }
 
@@ -62,6 +76,13 @@ impl Operation {
             BlockIndex | DiagonalIndex => &[Whole; 3],
             ClearValues | MakeDirichlet => &[Whole, Whole, Whole, Float],
             Mul => &[Whole, Whole, Whole, Float, Float, Float],
+            // The plan's four, and five to work in.
+            Plan => &[Whole; 12],
+            UpdatePreconditioner => &[Whole, Whole, Whole, Float, Float],
+            // Preconditioner, b and x, and four to work in.
+            ConjugateGradient => &[
+                Whole, Whole, Whole, Float, Float, Float, Float, Float, Float, Float, Float,
+            ],
         }
     }
 
@@ -69,9 +90,26 @@ impl Operation {
     pub fn first_changed(self) -> usize {
         match self {
             FromPairs | PatternFromPairs => 1,
-            BlockIndex | DiagonalIndex | ClearValues | MakeDirichlet => 3,
+            BlockIndex | DiagonalIndex | ClearValues | MakeDirichlet | Plan => 3,
             Mul => 5,
+            UpdatePreconditioner => 4,
+            ConjugateGradient => 6,
         }
+    }
+
+    /// What an answer's lists hold: those that the call may change. Behind a solve's stand its
+    /// outcome's number and count, and the outcome's floats; none of either if it was refused.
+    pub fn answered(self) -> Vec<Items> {
+        let mut kinds = self.lists()[self.first_changed()..].to_vec();
+        if self == ConjugateGradient {
+            kinds.extend([Whole, Float]);
+        }
+        kinds
+    }
+
+    /// Which of its numbers is a float's bits.
+    pub fn float_number(self) -> Option<usize> {
+        (self == ConjugateGradient).then_some(2)
     }
 
     pub fn builds(self) -> bool {
@@ -108,6 +146,17 @@ impl Call {
                 let [pairs, row_offsets, cols, diagonal, _, work] =
                     building_needs(n, self.numbers[1]);
                 vec![pairs, row_offsets, cols, diagonal, work]
+            }
+            Plan => {
+                let pattern = [n + 1, self.lists[0][n] as usize, n];
+                let plan = [n, n, 2 * n, 2 * n + 1];
+                [&pattern[..], &plan, &[n; 5]].concat()
+            }
+            UpdatePreconditioner | ConjugateGradient => {
+                let blocks = self.lists[0][n] as usize;
+                let mut needs = vec![n + 1, blocks, n, 4 * blocks, 4 * n];
+                needs.resize(self.operation.lists().len(), 2 * n);
+                needs
             }
             _ => {
                 let blocks = self.lists[0][n] as usize;

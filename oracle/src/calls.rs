@@ -48,7 +48,7 @@ fn column(draw: &mut Draw, n: usize, cols: &[u32]) -> usize {
 
 /// Every list as long as it must be or longer: values of this turn's kind, and numbers that mean
 /// nothing.
-fn lengthen(draw: &mut Draw, call: &mut Call, turn: usize) {
+pub(crate) fn lengthen(draw: &mut Draw, call: &mut Call, turn: usize) {
     let needs = call.needs();
     for (at, need) in needs.into_iter().enumerate() {
         let list = &mut call.lists[at];

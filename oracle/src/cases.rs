@@ -1,9 +1,12 @@
 //! The stored lists of cases, as functions of a seed.
 
-use crate::call::{Operation, OPERATIONS};
+use crate::call::{Operation, MATRIX};
 use crate::draw::{Draw, SPECIAL};
+use crate::graphs::{self, Graph};
+use crate::plan::ENVELOPE;
+use crate::shapes::{self, SIZED};
 use crate::text::case_line;
-use crate::{calls, graphs, planes, roots};
+use crate::{calls, limits, moves, planes, roots, solves};
 
 const EACH: usize = 400;
 
@@ -11,6 +14,12 @@ const EACH: usize = 400;
 /// the same of larger ones.
 const SMALL: (usize, usize) = (42, 7);
 const LARGER: (usize, usize) = (3, 40);
+
+/// The same of each kind of graph to plan.
+const PLANNED: (usize, usize) = (5, 9);
+
+/// The same of the conjugate gradient's, small graphs and larger ones.
+const SOLVED: [(usize, usize); 2] = [(160, 4), (16, 20)];
 
 pub fn plane(seed: u64) -> Vec<String> {
     let draw = &mut Draw::new(seed);
@@ -50,7 +59,7 @@ pub fn pattern(seed: u64) -> Vec<String> {
     let mut lines = Vec::new();
     for (turns, most) in [SMALL, LARGER] {
         for turn in 0..turns {
-            for operation in OPERATIONS {
+            for operation in MATRIX {
                 let graph = graphs::drawn(draw, turn, most);
                 lines.push(calls::accepted(draw, operation, &graph, turn).line());
             }
@@ -58,6 +67,42 @@ pub fn pattern(seed: u64) -> Vec<String> {
     }
     for operation in [Operation::PatternFromPairs, Operation::BlockIndex] {
         lines.push(calls::accepted(draw, operation, &graphs::chain(1024), 0).line());
+    }
+    lines
+}
+
+/// Graphs of every kind, all that were found to move their start and some made to, the longest chain,
+/// and envelopes at the limit and past it.
+pub fn plan(seed: u64) -> Vec<String> {
+    let draw = &mut Draw::new(seed);
+    let mut planned: Vec<Graph> = moves::found_all().map(|(_, graph)| graph).collect();
+    let (turns, most) = PLANNED;
+    for kind in SIZED {
+        planned.extend((0..turns).map(|_| shapes::drawn(draw, kind, most)));
+    }
+    planned.extend((0..=6).map(|times| moves::made(draw, times)));
+    planned.push(graphs::chain(1024));
+    for entries in [ENVELOPE, ENVELOPE + 1] {
+        planned.push(limits::connected(draw, entries));
+        planned.push(limits::apart(draw, entries));
+    }
+    let line = |graph: &Graph| calls::accepted(draw, Operation::Plan, graph, 0).line();
+    planned.iter().map(line).collect()
+}
+
+/// Solves of every kind, and updates of the preconditioner.
+pub fn gradient(seed: u64) -> Vec<String> {
+    let draw = &mut Draw::new(seed);
+    let mut lines = Vec::new();
+    for (turns, most) in SOLVED {
+        for turn in 0..turns {
+            let graph = graphs::drawn(draw, turn, most);
+            lines.push(solves::drawn(draw, turn, &graph).line());
+            if turn % 4 == 0 {
+                let graph = graphs::drawn(draw, turn / 4, most);
+                lines.push(solves::update(draw, turn / 4, &graph).line());
+            }
+        }
     }
     lines
 }

@@ -6,7 +6,7 @@ use crate::draw::Draw;
 pub const PAIRS: usize = 4096;
 
 /// The largest complete graph of no more pairs.
-const COMPLETE: usize = 91;
+pub const COMPLETE: usize = 91;
 
 pub struct Graph {
     pub n: usize,
@@ -14,7 +14,7 @@ pub struct Graph {
 }
 
 impl Graph {
-    fn new(n: usize, pairs: impl Iterator<Item = (usize, usize)>) -> Self {
+    pub(crate) fn new(n: usize, pairs: impl Iterator<Item = (usize, usize)>) -> Self {
         let pairs = pairs.map(|(a, b)| [a as u32, b as u32]).take(PAIRS);
         Self {
             n,
@@ -68,6 +68,22 @@ pub fn apart(draw: &mut Draw, n: usize) -> Graph {
         }
     }
     Graph::new(n, pairs.into_iter())
+}
+
+/// The numbers below n in any order.
+pub fn shuffle(draw: &mut Draw, n: usize) -> Vec<usize> {
+    let mut names: Vec<usize> = (0..n).collect();
+    for i in (1..n).rev() {
+        names.swap(i, draw.below(i as u32 + 1) as usize);
+    }
+    names
+}
+
+/// The graph with particle i called `names[i]`.
+pub fn relabelled(graph: &Graph, names: &[usize]) -> Graph {
+    let name = |i: u32| names[i as usize];
+    let pairs = graph.pairs.iter().map(|&[a, b]| (name(a), name(b)));
+    Graph::new(graph.n, pairs)
 }
 
 /// The graph with what adds nothing to it: repeats in either order, and equal pairs of any number.

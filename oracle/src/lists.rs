@@ -1,6 +1,6 @@
 //! The lines of calls: a list is its length and its items.
 
-use crate::call::{Call, Items, Left, OPERATIONS};
+use crate::call::{Call, Items, Left, Operation};
 use crate::text::{answer_token, float_token, read_float};
 
 fn case_item(items: Items, bits: u32) -> String {
@@ -25,7 +25,15 @@ fn push(tokens: &mut Vec<String>, kind: Items, list: &[u32], item: fn(Items, u32
 impl Call {
     pub fn line(&self) -> String {
         let mut tokens = vec![self.operation.word().to_string()];
-        tokens.extend(self.numbers.iter().map(usize::to_string));
+        let float = self.operation.float_number();
+        let number = |(at, &number): (usize, &usize)| {
+            if float == Some(at) {
+                case_item(Items::Float, number as u32)
+            } else {
+                number.to_string()
+            }
+        };
+        tokens.extend(self.numbers.iter().enumerate().map(number));
         for (&kind, list) in self.operation.lists().iter().zip(&self.lists) {
             push(&mut tokens, kind, list, case_item);
         }
@@ -34,9 +42,17 @@ impl Call {
 
     /// The call that a case line writes, if it is one.
     pub fn read(word: &str, tokens: &[&str]) -> Option<Self> {
-        let operation = OPERATIONS.into_iter().find(|it| it.word() == word)?;
+        let operation = Operation::all().find(|it| it.word() == word)?;
         let (numbers, mut rest) = tokens.split_at_checked(operation.numbers())?;
-        let numbers: Option<Vec<usize>> = numbers.iter().map(|it| it.parse().ok()).collect();
+        let float = operation.float_number();
+        let number = |(at, token): (usize, &&str)| {
+            if float == Some(at) {
+                read_float(token).map(|it| it.to_bits() as usize)
+            } else {
+                token.parse().ok()
+            }
+        };
+        let numbers: Option<Vec<usize>> = numbers.iter().enumerate().map(number).collect();
         let mut lists = Vec::new();
         for &kind in operation.lists() {
             let (length, items) = rest.split_first()?;
@@ -69,8 +85,7 @@ impl Left {
             number => vec!["refused".to_string(), number.to_string()],
         };
         tokens.extend(self.number.iter().map(usize::to_string));
-        let kinds = &call.operation.lists()[call.operation.first_changed()..];
-        for (&kind, list) in kinds.iter().zip(&self.lists) {
+        for (kind, list) in call.operation.answered().into_iter().zip(&self.lists) {
             push(&mut tokens, kind, list, answer_item);
         }
         tokens.join(" ")

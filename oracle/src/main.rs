@@ -1,5 +1,5 @@
-//! `oracle answer`: case lines in, answer lines out. `oracle cases plane SEED` and `oracle cases pattern
-//! SEED`: the stored lists of cases.
+//! `oracle answer`: case lines in, answer lines out. `oracle cases LIST SEED`: a stored list of cases,
+//! `plane`, `pattern`, `plan` or `gradient`.
 
 use std::io::{self, BufWriter, Write};
 use std::process::ExitCode;
@@ -11,9 +11,9 @@ fn main() -> ExitCode {
         ["answer"] => answer_all(),
         ["cases", "plane", seed] => write_cases(oracle::cases::plane, seed),
         ["cases", "pattern", seed] => write_cases(oracle::cases::pattern, seed),
-        _ => {
-            Err("usage: oracle answer | oracle cases plane SEED | oracle cases pattern SEED".into())
-        }
+        ["cases", "plan", seed] => write_cases(oracle::cases::plan, seed),
+        ["cases", "gradient", seed] => write_cases(oracle::cases::gradient, seed),
+        _ => Err("usage: oracle answer | oracle cases plane|pattern|plan|gradient SEED".into()),
     };
     match done {
         Ok(()) => ExitCode::SUCCESS,

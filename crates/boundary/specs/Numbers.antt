@@ -8,6 +8,8 @@ use Rattle.pattern.specs.declared.Found.{Found}
 use Rattle.pattern.specs.declared.Found.the-variants as found
 use Rattle.pattern.specs.declared.Ran.{Ran}
 use Rattle.pattern.specs.declared.Ran.the-variants as ran
+use Rattle.envelope.specs.declared.Planned.{Planned}
+use Rattle.envelope.specs.declared.Planned.the-variants as planned
 
 abbrev pub builtNumber : Built → ℕ
 builtNumber (built.Refused k) = k
@@ -25,6 +27,10 @@ foundNumber (found.Slot s) = 0
 abbrev pub foundSlot : Found → ℕ → ℕ
 foundSlot (found.Refused k) old = old
 foundSlot (found.Slot s) old = s
+
+abbrev pub plannedNumber : Planned → ℕ
+plannedNumber (planned.Refused k) = k
+plannedNumber (planned.Done len) = 0
 
 -- r is the number of the answer that the door comes to, and the lists are those that it leaves: with that answer they make up the outcome
 pub record Numbered {I O A : Type 0} (d : Door I O) (answer : O → A) (number : A → ℕ) (i : I) (r : ℕ) (left : A → O) : Type 0 where

@@ -6,7 +6,9 @@ ghost use Rattle.plane.specs.Lent.{flat};
 ghost use Rattle.root.specs.Sqrt.{sqrtOf};
 ghost use Rattle.boundary.specs.Handed.{handed, left};
 
+mod conjugate;
 mod matrix;
+mod plan;
 
 #[no_mangle]
 pub extern "C" fn bracket_root(x: f32) -> f32

@@ -1,17 +1,17 @@
 -- THE BLOCKS THAT GIVEN PAIRS STORE (document 01, module 2): each row's diagonal, and a pair's two numbers in either order. So repeats and equal pairs add nothing, whatever their
 -- numbers. The pattern of them is well formed and has at most n + 2 * count blocks.
-use Prim.Native.Nat.{ℕ, _+_, _*_, _≤_}
+use Prim.Native.Nat.{ℕ, _+_, _*_, _≤_, _<_}
 use mathlib.Core.Path.{_≡_, refl, ap, sym, _∙_}
 use mathlib.Core.Bool.{Bool, true, false, _&&_, _||_, or-comm, or-assoc}
 use mathlib.Core.List.{List, _++_}
-use mathlib.Core.Logic.{⊎-elim}
+use mathlib.Core.Logic.{_⊎_, inl, inr, ⊎-elim}
 use native.Mathlib.Omega.{arith}
 use lib.ListN.{length, getD}
 use lib.Dec.{ltb, eqb}
-use borrow.Author.Tests.{eq-eqb, ne-eqb, eqb-true}
+use borrow.Author.Tests.{eq-eqb, ne-eqb, eqb-true, ltb-true}
 use Rattle.law.specs.Loop.{from}
-use Rattle.law.specs.Truth.{either, or-left, or-right}
-use Rattle.law.specs.Every.{some, some-at, some-of, some-none, some-more}
+use Rattle.law.specs.Truth.{both, and-true, either, or-left, or-right}
+use Rattle.law.specs.Every.{every, every-at, some, some-at, some-of, some-none, some-more}
 use Rattle.law.specs.Gather.{upTo, upTo-none, upTo-more, upTo-sum, single}
 use Rattle.law.specs.Keep.{onlyIf, at-most-one, rank}
 use Rattle.shape.specs.Formed.{WellFormed}
@@ -66,7 +66,49 @@ module _ (pairs : List ℕ) (count : ℕ) where
   -- WHAT IS BUILT IS WELL FORMED, with any rest behind it
   pub built-formed : (n : ℕ) (s c d : List ℕ)
       → WellFormed n (startOf n (storedBy pairs count) n) (at (startsOf n (storedBy pairs count) ++ s)) (at (colsOf n (storedBy pairs count) ++ c)) (at (slotsOf n (storedBy pairs count) ++ d))
-  built-formed n s c d = well-formed n (storedBy pairs count) (λ r l. own r) twin _ _ _ (begins n (storedBy pairs count) s c d)
+  built-formed n s c d = well-formed n (storedBy pairs count) _ _ _ (begins n (storedBy pairs count) s c d) (λ r l. own r) twin
+
+-- ---- the same in document 01's words
+
+-- r and c are one particle, or one of the first count pairs joins them, in either order
+abbrev pub Together : List ℕ → ℕ → ℕ → ℕ → Type 0
+Together pairs count r c = (r ≡ c) ⊎ ((i : ℕ) × ((i < count) × (((left pairs i ≡ r) × (right pairs i ≡ c)) ⊎ ((left pairs i ≡ c) × (right pairs i ≡ r)))))
+
+joins-is : (a b r c : ℕ) → joins a b r c ≡ true → ((a ≡ r) × (b ≡ c)) ⊎ ((a ≡ c) × (b ≡ r))
+joins-is a b r c h =
+    ⊎-elim (λ t. let u = both (eqb a r) (eqb b c) t in inl (eqb-true a r (u .0), eqb-true b c (u .1))) (λ t. let u = both (eqb a c) (eqb b r) t in inr (eqb-true a c (u .0), eqb-true b r (u .1)))
+    (either (eqb a r && eqb b c) (eqb a c && eqb b r) h)
+
+joins-of : (a b r c : ℕ) → ((a ≡ r) × (b ≡ c)) ⊎ ((a ≡ c) × (b ≡ r)) → joins a b r c ≡ true
+joins-of a b r c h =
+    ⊎-elim (λ t. or-left (eqb a r && eqb b c) _ (and-true _ _ (eq-eqb a r (t .0)) (eq-eqb b c (t .1)))) (λ t. or-right (eqb a r && eqb b c) _ (and-true _ _ (eq-eqb a c (t .0)) (eq-eqb b r (t .1)))) h
+
+module _ (pairs : List ℕ) (count r c : ℕ) where
+  pub together-is : storedBy pairs count r c ≡ true → Together pairs count r c
+  unfolding storedBy joined
+  together-is h =
+      ⊎-elim (λ e. inl (eqb-true r c e))
+      (λ j.
+      let q = some-at (λ i. joins (left pairs i) (right pairs i) r c) 0 count j in
+      inr (q .0, (q .1 .1 .0, joins-is (left pairs (q .0)) (right pairs (q .0)) r c (q .1 .1 .1))))
+      (either (eqb r c) (joined pairs count r c) h)
+
+  pub together-of : Together pairs count r c → storedBy pairs count r c ≡ true
+  unfolding storedBy joined
+  together-of h =
+      ⊎-elim (λ e. or-left (eqb r c) _ (eq-eqb r c e))
+      (λ j. or-right (eqb r c) _ (some-of (λ i. joins (left pairs i) (right pairs i) r c) 0 count (j .0) (omega arith) (j .1 .0) (joins-of (left pairs (j .0)) (right pairs (j .0)) r c (j .1 .1)))) h
+
+  -- pairs that are no ground for refusal 4 join particles with particles
+  pub together-below : (n : ℕ) → every (pairOkAt n pairs) 0 count ≡ true → r < n → Together pairs count r c → c < n
+  together-below n ok l h =
+      ⊎-elim (λ e. omega arith)
+      (λ j.
+      let a = left pairs (j .0) in
+      let b = right pairs (j .0) in
+      ⊎-elim (λ e. let same = eqb-true a b e in ⊎-elim (λ t. omega (arith, t .0, t .1)) (λ t. omega (arith, t .0, t .1)) (j .1 .1))
+      (λ t. let u = both (ltb a n) (ltb b n) t in let v = ltb-true a n (u .0) in let w = ltb-true b n (u .1) in ⊎-elim (λ t. omega (arith, t .1)) (λ t. omega (arith, t .0)) (j .1 .1))
+      (either (eqb a b) (ltb a n && ltb b n) (every-at (pairOkAt n pairs) 0 count ok (j .0) (omega arith) (j .1 .0)))) h
 
 -- ---- how many blocks there are
 

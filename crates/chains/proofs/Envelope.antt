@@ -134,7 +134,7 @@ module _ (starts cols o : List ℕ) where
 
 -- ---- the two together
 
-module _ (n : ℕ) (starts cols diagonal : List ℕ) (p : Pattern n starts cols diagonal) (o : List ℕ) (ord : Ordered n (Stored (at starts) (at cols)) o) where
+module _ (n : ℕ) (starts cols diagonal : List ℕ) (p : Pattern n starts cols diagonal) (o : List ℕ) (long : length o ≡ n) (ord : Ordered n (Stored (at starts) (at cols)) (at o)) where
   abbrev S : ℕ → ℕ → Type 0
   S = Stored (at starts) (at cols)
 
@@ -147,9 +147,9 @@ module _ (n : ℕ) (starts cols diagonal : List ℕ) (p : Pattern n starts cols 
   place : (w : ℕ) → w < n → (placeOf o w < n) × (getD o (placeOf o w) 0 ≡ w)
   place w lt =
       let l = ord .listed w lt in
-      let h : l .0 < length o = omega (arith, l .1, ord .long) in
+      let h : l .0 < length o = omega (arith, l .1, long) in
       let a = place-at o w (l .0, subst (λ (x : ℕ). At o (l .0) x) (l .2) (At-getD o (l .0) 0 h)) in
-      (omega (arith, at-lt a, ord .long), at-getD 0 a)
+      (omega (arith, at-lt a, long), at-getD 0 a)
 
   place-of : (j : ℕ) → j < n → placeOf o (getD o j 0) ≡ j
   place-of j lt = let q = place (getD o j 0) (ord .below j lt) in ord .once _ j (q .0) lt (q .1)
@@ -178,7 +178,7 @@ module _ (n : ℕ) (starts cols diagonal : List ℕ) (p : Pattern n starts cols 
           let e : x .0 ≡ getD o (leftmost o i (nb (getD o i 0))) 0 = sym (q .1) ∙ ap (λ (k : ℕ). getD o k 0) (sym (x .2)) in
           subst (λ (w : ℕ). S (getD o i 0) w) e s
 
-  pub enveloped : Enveloped n (Stored (at starts) (at cols)) o (firstCol (take (n + 1) starts) (take (at starts n) cols) o) (rowStarts (take (n + 1) starts) (take (at starts n) cols) o (2 * n))
+  pub enveloped : Enveloped n (Stored (at starts) (at cols)) (at o) (firstCol (take (n + 1) starts) (take (at starts n) cols) o) (at (rowStarts (take (n + 1) starts) (take (at starts n) cols) o (2 * n)))
   unfolding fb
   enveloped = record {
     inside = λ i j a b li lj la lb s h. omega (arith, first-of (take (n + 1) starts) (take (at starts n) cols) o i a la, starts-left i j li lj (omega arith) s);

@@ -6,6 +6,7 @@ use mathlib.Core.Logic.{_⊎_, inl, inr}
 use mathlib.Core.List.{List, reverse}
 use lib.ListN.{length, getD, length-map, length-reverse}
 use Rattle.law.specs.Truth.{below-or}
+use Rattle.shape.specs.Rows.{at}
 use Rattle.order.specs.Order.{placing}
 use Rattle.order.proofs.At.{At, at-lt, at-of, at-getD, at-fun, at-map, at-unmap, at-reverse}
 use Rattle.order.proofs.Pigeon.{Distinct, few, all}
@@ -47,8 +48,7 @@ module _ (S : ℕ → ℕ → Type 0) (n : ℕ) (start : List ℕ → ℕ) (adds
   o : List ℕ
   o = reverse (whos g)
 
-  length-o : length o ≡ n
-  unfolding o
+  length-o : length (reverse (whos g)) ≡ n
   length-o = length-reverse (whos g) ∙ length-map g (λ (e : Mark). e .who) ∙ size
 
   abbrev Seat : ℕ → Type 0
@@ -93,7 +93,7 @@ module _ (S : ℕ → ℕ → Type 0) (n : ℕ) (start : List ℕ → ℕ) (adds
       omega (arith, q .5)
 
   -- the last place of a stretch is its root
-  rooted : (k : ℕ) (s : Seat k) → Last n S o k → (s .1 .root ≡ s .0) × (s .1 .dep ≡ 0)
+  rooted : (k : ℕ) (s : Seat k) → Last n S (at o) k → (s .1 .root ≡ s .0) × (s .1 .dep ≡ 0)
   rooted k s last =
       let p = v .base .path (s .0) (s .1) (s .3) in
       let up = v .base .root (s .0) (s .1) (s .3) in
@@ -130,7 +130,7 @@ module _ (S : ℕ → ℕ → Type 0) (n : ℕ) (start : List ℕ → ℕ) (adds
       (unroots i j s t (omega arith), unroots j k t u (omega arith))
 
   -- the depth of a place of the stretch that ends at k is its fewest links to k
-  fewest : (i k : ℕ) (s : Seat i) (t : Seat k) → Last n S o k → Stretch i k → Fewest S (getD o i 0) (getD o k 0) (s .1 .dep)
+  fewest : (i k : ℕ) (s : Seat i) (t : Seat k) → Last n S (at o) k → Stretch i k → Fewest S (getD o i 0) (getD o k 0) (s .1 .dep)
   fewest i k s t last c =
       let z = rooted k t last in
       let r = roots i k s t c in
@@ -141,7 +141,7 @@ module _ (S : ℕ → ℕ → Type 0) (n : ℕ) (start : List ℕ → ℕ) (adds
       (ch, λ (m : ℕ) (d : Chain S (s .1 .who) (t .1 .who) m). least (s .0) (t .0) (s .1) (t .1) (s .3) (t .3) (z .1) m d))
 
   -- the root's place ends the stretch
-  stretch : (i : ℕ) → i < n → (k : ℕ) × (i ≤ k) × Last n S o k × Stretch i k
+  stretch : (i : ℕ) → i < n → (k : ℕ) × (i ≤ k) × Last n S (at o) k × Stretch i k
   stretch i lt =
       let s = seat i lt in
       let p = v .base .path (s .0) (s .1) (s .3) in
@@ -162,10 +162,9 @@ module _ (S : ℕ → ℕ → Type 0) (n : ℕ) (start : List ℕ → ℕ) (adds
         unroots i k s t (sym (p .2)),
       )
 
-  ordered-walk : Ordered n S (reverse (whos g))
+  ordered-walk : Ordered n S (at (reverse (whos g)))
   unfolding o
   ordered-walk = record {
-    long = length-o;
     listed = λ p lt.
         let a = all n (whos g) distinct below (omega (arith, length-map g (λ (e : Mark). e .who))) p lt in
         let u = at-unmap (λ (e : Mark). e .who) g (a .1) in
@@ -197,7 +196,12 @@ module _ (S : ℕ → ℕ → Type 0) (n : ℕ) (start : List ℕ → ℕ) (adds
   }
 
 module _ (S : ℕ → ℕ → Type 0) (n : ℕ) (start : List ℕ → ℕ) (adds : List ℕ → ℕ → List ℕ) (G : Given S n start adds) where
-  pub ordered : Ordered n S (reverse (placing start adds n))
+  pub ordered : Ordered n S (at (reverse (placing start adds n)))
   ordered =
       let w = walk S n start adds G n (omega arith) in
-      subst (λ (l : List ℕ). Ordered n S (reverse l)) (w .1) (ordered-walk S n start adds G (w .0) (w .2) (w .3))
+      subst (λ (l : List ℕ). Ordered n S (at (reverse l))) (w .1) (ordered-walk S n start adds G (w .0) (w .2) (w .3))
+
+  pub ordered-long : length (reverse (placing start adds n)) ≡ n
+  ordered-long =
+      let w = walk S n start adds G n (omega arith) in
+      subst (λ (l : List ℕ). length (reverse l) ≡ n) (w .1) (length-o S n start adds G (w .0) (w .2) (w .3))

@@ -3,3 +3,4 @@ mod Final
 mod Blocks
 mod Envelope
 pub mod Whole
+pub mod Carried

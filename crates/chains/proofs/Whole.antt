@@ -1,21 +1,28 @@
 -- Demand 3 holds of every well formed pattern. Assumes nothing.
 use Prim.Native.Nat.{ℕ, _+_}
+use mathlib.Core.Path.{_≡_}
 use mathlib.Core.List.{List}
-use lib.ListN.{take}
+use lib.ListN.{length, take}
 use Rattle.shape.specs.Formed.{Stored}
 use Rattle.shape.specs.Rows.{at, Pattern}
 use Rattle.order.specs.Order.{neighbours, startAfter, fresh, orderOf}
-use Rattle.chains.specs.Demand.{Ordered, Demand3, orderIn}
-use Rattle.chains.proofs.Final.{ordered}
+use Rattle.chains.specs.Demand.{Ordered, Demand3, orderIn, firstIn, startsIn}
+use Rattle.chains.proofs.Final.{ordered, ordered-long}
 use Rattle.chains.proofs.Blocks.{given}
 use Rattle.chains.proofs.Envelope.{enveloped}
 
 module _ (n : ℕ) (starts cols diagonal : List ℕ) (p : Pattern n starts cols diagonal) where
-  order-holds : Ordered n (Stored (at starts) (at cols)) (orderIn n starts cols)
-  unfolding orderOf
-  order-holds =
-      let nb = neighbours (take (n + 1) starts) (take (at starts n) cols) in
-      ordered (Stored (at starts) (at cols)) n (startAfter nb n) (fresh nb n) (given n starts cols diagonal p)
+  abbrev nb : ℕ → List ℕ
+  nb = neighbours (take (n + 1) starts) (take (at starts n) cols)
 
-  pub demand-3 : Demand3 n starts cols
-  demand-3 = record { ordered = order-holds; enveloped = enveloped n starts cols diagonal p (orderIn n starts cols) order-holds }
+  order-holds : Ordered n (Stored (at starts) (at cols)) (at (orderIn n starts cols))
+  unfolding orderOf
+  order-holds = ordered (Stored (at starts) (at cols)) n (startAfter nb n) (fresh nb n) (given n starts cols diagonal p)
+
+  -- the order is as long as there are particles
+  pub order-long : length (orderIn n starts cols) ≡ n
+  unfolding orderOf
+  order-long = ordered-long (Stored (at starts) (at cols)) n (startAfter nb n) (fresh nb n) (given n starts cols diagonal p)
+
+  pub demand-3 : Demand3 n (Stored (at starts) (at cols)) (at (orderIn n starts cols)) (firstIn n starts cols) (at (startsIn n starts cols))
+  demand-3 = record { ordered = order-holds; enveloped = enveloped n starts cols diagonal p (orderIn n starts cols) order-long order-holds }

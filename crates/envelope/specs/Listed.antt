@@ -13,7 +13,7 @@ use Rattle.law.specs.Gather.{table, table-of}
 use Rattle.shape.specs.Rows.{at, Pattern}
 use Rattle.order.specs.Envelope.{placeOf}
 use Rattle.chains.specs.Demand.{orderIn}
-use Rattle.chains.proofs.Whole.{demand-3}
+use Rattle.chains.proofs.Whole.{order-long, demand-3}
 
 pub record Listed (n : ℕ) (o : List ℕ) : Type 0 where
   pub long : length o ≡ n
@@ -66,4 +66,4 @@ module _ (n : ℕ) (o : List ℕ) (w : Listed n o) where
 pub order-lists : (n : ℕ) (starts cols diagonal : List ℕ) → Pattern n starts cols diagonal → Listed n (orderIn n starts cols)
 order-lists n starts cols diagonal p =
     let o = demand-3 n starts cols diagonal p .ordered in
-    record { long = o .long; below = o .below; once = o .once; listed = λ q h. let i = o .listed q h in (i .0, (i .1, i .2)) }
+    record { long = order-long n starts cols diagonal p; below = o .below; once = o .once; listed = λ q h. let i = o .listed q h in (i .0, (i .1, i .2)) }

@@ -6,7 +6,7 @@ ghost use Rattle.envelope.specs.Plan.{four};
 ghost use Rattle.envelope.specs.Parts.{five};
 ghost use Rattle.envelope.specs.Planning.{given, left, answered, door};
 
-mod front;
+pub mod front;
 pub mod inner;
 mod refuse;
 mod rows;

@@ -6,6 +6,7 @@ pub mod All
 pub mod Gather
 pub mod Keep
 pub mod Find
+pub mod Sum
 pub mod Store
 pub mod Mix
 pub mod Put

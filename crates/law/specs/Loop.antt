@@ -121,3 +121,9 @@ climbing f a b climb j k h l g =
   where
     step : (i : ℕ) → a ≤ i → i + 1 < b → f i < f (i + 1)
     step i q m = let e : (i + 1) - 1 ≡ i = omega arith in rw e at (climb (i + 1) (omega arith) m)
+
+-- what holds before the first turn, and passes from each turn's number to the next, holds at the end
+pub over-holds : {S : Type 0} (P : ℕ → S → Type 0) (f : ℕ → S → S) (a b : ℕ) (s : S) → a ≤ b → P a s → ((k : ℕ) (t : S) → a ≤ k → k < b → P k t → P (k + 1) (f k t)) → P b (over f a b s)
+over-holds P f a b s l h step =
+    from (λ k. k ≤ b → P k (over f a k s)) a (λ _. rw (← over-none f a s) h)
+    (λ k q ih g. rw (← over-more f a k s q) (step k (over f a k s) q (omega arith) (ih (omega arith)))) b l (omega arith)

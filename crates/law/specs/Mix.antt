@@ -3,13 +3,13 @@
 -- written in any order is such a mix too (`mix-of`).
 use Prim.Native.Nat.{ℕ, _+_, _*_, _-_, _≤_, _<_}
 use mathlib.Core.Path.{_≡_, refl, ap, sym, _∙_, subst}
-use mathlib.Core.List.{List, [], _∷_, _++_, append-assoc}
+use mathlib.Core.List.{List, [], _∷_, _++_, append-assoc, append-nil}
 use mathlib.Core.Logic.{⊎-elim, inl, inr}
 use native.Mathlib.Omega.{arith}
 use native.Mathlib.Nat.{mul-zero, mul-suc, mul-le-mul-left}
 use native.Mathlib.Numerals.{add-one}
 use lib.ListN.{length, getD, drop, take, length-append, length-drop, take-append-drop}
-use lib.Seq.{sets-eq, take-at, drop-drop, drop-append-add, getD-append-add, getD-drop, getD-take, length-take-le, ext-getD}
+use lib.Seq.{sets-eq, take-at, drop-drop, drop-append-add, drop-length, getD-append-add, getD-drop, getD-take, length-take-le, ext-getD}
 use Rattle.law.specs.Truth.{below-or, same-or}
 use Rattle.law.specs.Gather.{gather, gather-none, gather-more, gather-at, gather-in, upTo, upTo-even}
 use Rattle.law.specs.Store.{written, written-at, written-other}
@@ -99,3 +99,7 @@ module _ {A : Type 0} (w : ℕ) (d : A) where
           let even : upTo f r ≡ w * r = upTo-even f w long r in
           let place : w * r + (i - upTo f r) ≡ i = omega (arith, t .1 .1 .0) in
           (rw place at (parts r (t .1 .0) (i - upTo f r) less)) ∙ sym (ap (λ (q : ℕ). getD (gather f 0 k) q d) at ∙ gather-at f k r (i - upTo f r) d (t .1 .0) (omega (arith, long r)))
+
+-- a buffer that the parts fill
+pub mix-whole : {A : Type 0} (w k : ℕ) (f : ℕ → List A) (l : List A) → length l ≡ w * k → mix w k f l ≡ gather f 0 k
+mix-whole {A} w k f l e = ap (λ (i : ℕ). gather f 0 k ++ drop i l) (sym e) ∙ ap (λ (t : List A). gather f 0 k ++ t) (drop-length l) ∙ append-nil (gather f 0 k)

@@ -1,6 +1,7 @@
 -- THE PROMISE OF A DOOR: what it answers and leaves behind every `&mut`, as one value, is a definition of what it was handed.
 use mathlib.Core.Path.{_≡_, refl, sym, ap, _∙_}
 use mathlib.Core.List.{List}
+use mathlib.Core.Logic.{_⊎_, inl, inr}
 use native.Mathlib.Omega.{arith}
 use Prim.Native.Nat.{ℕ, zero, suc, _≤_, _<_}
 use Rattle.law.specs.Refusal.{Test, verdict, Rising, Passed, Fails, all-pass, none-fails, it-fails, it-is-lowest}
@@ -68,3 +69,19 @@ pub one-count : {I O T : Type 0} (d : Door I O) (counts : T → O → T) (i : I)
 one-count d counts i t o p u v h g =
     let e : o ≡ p = one-outcome d i o p (h .0) (g .0) in
     (e, h .1 ∙ ap (counts t) e ∙ sym (g .1))
+
+-- WHAT A PROMISE SAYS OF AN OUTCOME: it is the work, and the number is 0; or it is the refusal by the number, which is above 0
+module _ {I O : Type 0} (d : Door I O) (i : I) (o : O) where
+  abbrev pub IsWork : Type 0
+  IsWork = (verdict (d .tests i) ≡ 0) × (o ≡ d .work i)
+
+  abbrev pub IsRefusal : ℕ → Type 0
+  IsRefusal k = (0 < k) × ((verdict (d .tests i) ≡ k) × (o ≡ d .refuse k i))
+
+  pub work-or-refusal : Promise d i o → IsWork ⊎ ((k : ℕ) × IsRefusal k)
+  unfolding outcome
+  work-or-refusal = go (verdict (d .tests i)) refl
+    where
+      go : (k : ℕ) → verdict (d .tests i) ≡ k → o ≡ by k (d .work i) (λ j. d .refuse j i) → IsWork ⊎ ((k : ℕ) × IsRefusal k)
+      go zero e h = inl (e, h)
+      go (suc k) e h = inr (suc k, (omega arith, (e, h)))

@@ -5,6 +5,7 @@ use mathlib.Core.List.{List, [], _∷_, _++_, append-nil, append-assoc}
 use mathlib.Core.Logic.{_⊎_, ⊎-elim, inl, inr}
 use native.Mathlib.Omega.{arith}
 use native.Mathlib.Nat.{add-zero, zero-add}
+use native.Mathlib.Numerals.{add-one}
 use lib.ListN.{length, getD, set, take, drop, replicate, length-set, length-drop, length-replicate, replicate-append-replicate, List·getD-append}
 use lib.Seq.{sets, sets-eq, length-sets, drop-length, drop-set-lt, length-take-le, getD-take, getD-drop, getD-append-add, getD-set-other, drop-at}
 use Rattle.law.specs.Gather.{gather, gather-none, gather-more, upTo, table, upTo-table}
@@ -103,3 +104,12 @@ table-more f l r = let e : upTo (λ i. f i ∷ []) r ≡ r = upTo-table f r in r
 -- the same as a loop's turn has it: x is the buffer at the loop's head, v the entry
 pub table-turn : (f : ℕ → ℕ) (l x : List ℕ) (r v : ℕ) → x ≡ written l 0 (table f r) → v ≡ f r → set x r v ≡ written l 0 (table f (r + 1))
 table-turn f l x r v e q = ap (λ (t : List ℕ). set t r v) e ∙ ap (λ (k : ℕ). set (written l 0 (table f r)) r k) q ∙ table-more f l r
+
+-- one place more of a buffer that is filled with one value from the front
+pub filled-more : {A : Type 0} (k : ℕ) (v : A) (l : List A) → k < length l → set (replicate k v ++ drop k l) k v ≡ replicate (k + 1) v ++ drop (k + 1) l
+filled-more {A} k v l h = rw add-one (more k l h)
+  where
+    more : (k : ℕ) (l : List A) → k < length l → set (replicate k v ++ drop k l) k v ≡ replicate (suc k) v ++ drop (suc k) l
+    more k [] g = absurd (omega arith)
+    more zero (x ∷ l) g = refl
+    more (suc k) (x ∷ l) g = ap (λ (t : List A). v ∷ t) (more k l (omega arith))

@@ -1,6 +1,6 @@
 -- What a test's answer says: the sides of `&&` and `||`, the two ways of a branch, and that a number is below another or is not, equals it or does not.
 use Prim.Native.Nat.{ℕ, _≤_, _<_}
-use mathlib.Core.Path.{_≡_, refl}
+use mathlib.Core.Path.{_≡_, refl, sym}
 use mathlib.Core.Bool.{Bool, true, false, not, _&&_, _||_}
 use mathlib.Core.Logic.{_⊎_, inl, inr}
 use lib.Dec.{ltb, eqb}
@@ -51,3 +51,9 @@ same-or j n = pick (eqb j n) refl
     pick : (t : Bool) → eqb j n ≡ t → (j ≡ n) ⊎ (j ≡ n → ⊥)
     pick true e = inl (eqb-true j n e)
     pick false e = inr (eqb-false j n e)
+
+-- tests that pass together are the same
+pub alike : (x y : Bool) → (x ≡ true → y ≡ true) → (y ≡ true → x ≡ true) → x ≡ y
+alike true y h g = sym (h refl)
+alike false true h g = g refl
+alike false false h g = refl

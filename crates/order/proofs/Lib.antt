@@ -15,4 +15,3 @@ mod Settling
 mod Standing
 mod Degrees
 mod Whole
-mod Readings

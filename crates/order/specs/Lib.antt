@@ -5,3 +5,4 @@ pub mod Left
 pub mod Keys
 pub mod Marks
 pub mod Searches
+mod Readings

@@ -9,7 +9,7 @@ ghost use Rattle.pattern.specs.Building as building;
 ghost use Rattle.pattern.specs.FromPairs as frompairs;
 
 pub mod inner;
-mod refuse;
+pub mod refuse;
 
 pub enum Built {
     Refused(u8),

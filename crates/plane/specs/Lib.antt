@@ -1,3 +1,4 @@
 pub mod Plane
 pub mod Lent
 pub mod Whole
+pub mod Run

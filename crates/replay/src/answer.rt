@@ -90,6 +90,13 @@ fn operate(name: &[u8], w: &[u32], out: &mut Room) -> usize
     if check::same(name, b"inverse") {
         return inverse(w, out);
     }
+    if check::same(name, b"plan") {
+        return replay_plan::operation::plan(w, out);
+    }
+    let at = replay_gradient::operation::operate(name, w, out);
+    if at > 0 {
+        return at;
+    }
     replay_matrix::operation::operate(name, w, out)
 }
 

@@ -1,23 +1,10 @@
-// The word and number that an answer begins with.
+// What the block matrix's answers begin with.
 ghost use Prim.Native.Nat.{_≤_};
 ghost use Rattle.tokens.specs.Room.{room};
 use tokens::print::Room;
-use tokens::print::whole;
 use tokens::print::word;
-
-fn refused(number: u8, out: &mut Room) -> usize
-    ensures { λ r. ⌜ r ≤ room ⌝ }
-{
-    let at = word(b"refused", out, 0);
-    whole(number as u64, out, at)
-}
-
-fn done(number: u64, out: &mut Room) -> usize
-    ensures { λ r. ⌜ r ≤ room ⌝ }
-{
-    let at = word(b"done", out, 0);
-    whole(number, out, at)
-}
+use tokens::verdict::done;
+use tokens::verdict::refused;
 
 pub fn built(answer: pattern::Built, out: &mut Room) -> usize
     ensures { λ r. ⌜ r ≤ room ⌝ }

@@ -11,4 +11,5 @@ mod Middles
 mod Fractions
 pub mod Rounding
 pub mod Fixed
+pub mod Above
 mod Readings

@@ -5,7 +5,7 @@ use mathlib.Core.Path.{_≡_, refl, ap, sym, _∙_}
 use mathlib.Core.Bool.{Bool, true}
 use mathlib.Core.List.{List, [], _∷_, _++_}
 use native.Mathlib.Omega.{arith}
-use lib.ListN.{length, getD, length-append, List·getD-append}
+use lib.ListN.{length, length-append, List·getD-append}
 use Rattle.law.specs.Gather.{gather, upTo, upTo-none, upTo-more, upTo-rise, gather-at, gather-same, table, length-table, table-at}
 use Rattle.law.specs.Keep.{keep, rank, keep-has, keep-at, keep-rise, keep-same}
 use Rattle.shape.specs.Formed.{InRow, Stored, WellFormed}
@@ -78,7 +78,7 @@ module _ (n : ℕ) (p : ℕ → ℕ → Bool) where
     column = λ r j l h. List·getD-append (colsOf n p) c 0 (startOf n p r + j) (omega (arith, length-cols, start-more r, start-rise (r + 1) n (omega arith))) ∙ cols-at r j l h;
   }
 
-  module _ (own : (r : ℕ) → r < n → p r r ≡ true) (twin : (r c : ℕ) → p r c ≡ true → p c r ≡ true) (starts cols diagonal : List ℕ) (h : Begins n p starts cols diagonal) where
+  module _ (starts cols diagonal : List ℕ) (h : Begins n p starts cols diagonal) where
     -- what stands in a slot of row r
     slot-is : (r k : ℕ) → r < n → startOf n p r ≤ k → k < startOf n p (r + 1) → at cols k ≡ at (rowOf n p r) (k - startOf n p r)
     slot-is r k l a b =
@@ -105,32 +105,35 @@ module _ (n : ℕ) (p : ℕ → ℕ → Bool) where
     there : (r k : ℕ) → r < n → startOf n p r ≤ k → k < startOf n p (r + 1) → InRow (at starts) r k
     there r k l a b = rw (h .start r (omega arith), h .start (r + 1) (omega arith)) (a, b)
 
-    pub well-formed : WellFormed n (startOf n p n) (at starts) (at cols) (at diagonal)
-    unfolding slotOf rowOf
-    well-formed = record {
-      begins = h .start 0 (omega arith) ∙ start-none;
-      rise = λ r l. rw (h .start r (omega arith), h .start (r + 1) (omega arith)) (start-rise r (r + 1) (omega arith));
-      ends = h .start n (omega arith);
-      below = λ r k l i. let t = column-of r k l (here r k l i .0) (here r k l i .1) in rw (t .1 .1 .1 .1) (t .1 .0);
-      strict = λ r k l i g.
-          let a = here r k l i in
-          let g′ : startOf n p r < k = rw (h .start r (omega arith)) at g in
-          let e : (k - 1) - startOf n p r + 1 ≡ k - startOf n p r = omega arith in
-          rw (slot-is r (k - 1) l (omega arith) (omega (arith, a .1)), slot-is r k l (a .0) (a .1)) (rw e at (keep-rise (p r) n ((k - 1) - startOf n p r) (omega (arith, a .1, start-more r, length-row r))));
-      home = λ r l.
-          let q = slot-for r r l l (own r l) in
-          rw (h .slot r l) (there r (slotOf n p r) l (omega arith) (q .0), q .1);
-      mirrored = λ r col l w.
-          let a = here r (w .0) l (w .1 .0) in
-          let t = column-of r (w .0) l (a .0) (a .1) in
-          let same : t .0 ≡ col = sym (t .1 .1 .1 .1) ∙ w .1 .1 in
-          let c = t .0 in
-          let q = slot-for c r (t .1 .0) l (twin r c (t .1 .1 .0)) in
-          rw same at (the (Stored (at starts) (at cols) c r) (startOf n p c + rank (p c) r, (there c (startOf n p c + rank (p c) r) (t .1 .0) (omega arith) (q .0), q .1)));
-    }
-      where
-        the : (A : Type 0) → A → A
-        the A a = a
+    -- THE STORED BLOCKS ARE THOSE THAT THE TEST PASSES
+    pub stored-passes : (r c : ℕ) → r < n → Stored (at starts) (at cols) r c → (c < n) × (p r c ≡ true)
+    stored-passes r c l w =
+        let a = here r (w .0) l (w .1 .0) in
+        let t = column-of r (w .0) l (a .0) (a .1) in
+        let same : t .0 ≡ c = sym (t .1 .1 .1 .1) ∙ w .1 .1 in
+        (rw same at (t .1 .0), rw same at (t .1 .1 .0))
+
+    pub passes-stored : (r c : ℕ) → r < n → c < n → p r c ≡ true → Stored (at starts) (at cols) r c
+    passes-stored r c l m t = let q = slot-for r c l m t in (startOf n p r + rank (p r) c, (there r (startOf n p r + rank (p r) c) l (omega arith) (q .0), q .1))
+
+    module _ (own : (r : ℕ) → r < n → p r r ≡ true) (twin : (r c : ℕ) → p r c ≡ true → p c r ≡ true) where
+      pub well-formed : WellFormed n (startOf n p n) (at starts) (at cols) (at diagonal)
+      unfolding slotOf rowOf
+      well-formed = record {
+        begins = h .start 0 (omega arith) ∙ start-none;
+        rise = λ r l. rw (h .start r (omega arith), h .start (r + 1) (omega arith)) (start-rise r (r + 1) (omega arith));
+        ends = h .start n (omega arith);
+        below = λ r k l i. let t = column-of r k l (here r k l i .0) (here r k l i .1) in rw (t .1 .1 .1 .1) (t .1 .0);
+        strict = λ r k l i g.
+            let a = here r k l i in
+            let g′ : startOf n p r < k = rw (h .start r (omega arith)) at g in
+            let e : (k - 1) - startOf n p r + 1 ≡ k - startOf n p r = omega arith in
+            rw (slot-is r (k - 1) l (omega arith) (omega (arith, a .1)), slot-is r k l (a .0) (a .1)) (rw e at (keep-rise (p r) n ((k - 1) - startOf n p r) (omega (arith, a .1, start-more r, length-row r))));
+        home = λ r l.
+            let q = slot-for r r l l (own r l) in
+            rw (h .slot r l) (there r (slotOf n p r) l (omega arith) (q .0), q .1);
+        mirrored = λ r col l w. let t = stored-passes r col l w in passes-stored col r (t .0) l (twin r col (t .1));
+      }
 
 -- tests that agree below n give the same pattern
 module _ (n : ℕ) (p q : ℕ → ℕ → Bool) (agree : (r c : ℕ) → r < n → c < n → p r c ≡ q r c) where

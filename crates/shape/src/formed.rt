@@ -1,12 +1,13 @@
 // Whether a pattern is well formed, in three phases: row starts, rows, mirrors. Each reads only what the ones before it have shown to be there.
-use crate::index;
+use crate::mirror;
 ghost use mathlib.Core.Path.{_≡_};
 ghost use Prim.Native.Nat.{_≤_, _<_};
 ghost use lib.ListN.{length};
 ghost use Rattle.law.specs.Every.{every};
-ghost use Rattle.shape.specs.Formed.{riseOk, slotOk, homeOk, rowOk, mirrorsOk, startsOk, wellFormed};
+ghost use Rattle.shape.specs.Formed.{riseOk, slotOk, homeOk, rowOk, startsOk, wellFormed};
+ghost use Rattle.shape.specs.Halves.{aboveOk, evenOk};
 ghost use Rattle.shape.specs.Rows.{at, Held};
-ghost use Rattle.shape.specs.Phases.{Spread, Lined};
+ghost use Rattle.shape.specs.Phases.{Spread, Sides, Halved};
 
 fn rises(n: usize, row_offsets: &[u32]) -> bool
     requires { ⌜ n < length (now «row_offsets») ⌝ }
@@ -26,19 +27,20 @@ fn starts_ok(n: usize, m: usize, row_offsets: &[u32]) -> bool
     (row_offsets[0] == 0) & rises(n, row_offsets) & (law::wide(row_offsets[n]) == m)
 }
 
-// The columns of the slots a..b are below n and rise strictly: none is below `floor`, one more than the column before it.
+// The columns of the slots a..b rise strictly and are below n: none is below `floor`, one more than the column before it, and so the last tells the rest.
 fn slots_ok(n: usize, cols: &[u32], a: usize, b: usize) -> bool
     requires { ⌜ (a ≤ b) × (b ≤ length (now cols)) ⌝ }
     ensures { λ x. ⌜ x ≡ every (slotOk n (at (now (cols .entry))) a) a b ⌝ }
 {
-    let mut ok = true;
     let mut floor: usize = 0;
     for k in a..b {
         let c = law::wide(cols[k]);
-        ok = ok & ((c < n) & (floor <= c));
+        if c < floor {
+            return false;
+        }
         floor = c + 1;
     }
-    ok
+    floor <= n
 }
 
 // Slot k is one of a..b and has the column r.
@@ -76,29 +78,40 @@ fn rows_ok(n: usize, row_offsets: &[u32], cols: &[u32], diagonal: &[u32]) -> boo
     ok
 }
 
-// For each block of row r its mirror is stored.
-fn mirrors_ok(n: usize, row_offsets: &[u32], cols: &[u32], r: usize) -> bool
-    requires { ⌜ Lined n (now «row_offsets») (now cols) × (r < n) ⌝ }
-    ensures { λ x. ⌜ x ≡ mirrorsOk (at (now («row_offsets» .entry))) (at (now (cols .entry))) r ⌝ }
+// As many blocks stand below the diagonal as above it.
+fn even_ok(n: usize, m: usize, row_offsets: &[u32], diagonal: &[u32]) -> bool
+    requires { ⌜ Sides n (now «row_offsets») (now diagonal) ⌝ }
+    ensures { λ x. ⌜ x ≡ evenOk n m (at (now («row_offsets» .entry))) (at (now (diagonal .entry))) ⌝ }
 {
-    let a = law::wide(row_offsets[r]);
+    let mut low: usize = 0;
+    for r in 0..n {
+        low = low + (law::wide(diagonal[r]) - law::wide(row_offsets[r]));
+    }
+    2 * low + n == m
+}
+
+// Each block of row r above the diagonal has its mirror below.
+fn above_ok(n: usize, row_offsets: &[u32], cols: &[u32], diagonal: &[u32], r: usize) -> bool
+    requires { ⌜ Halved n (now «row_offsets») (now cols) (now diagonal) × (r < n) ⌝ }
+    ensures { λ x. ⌜ x ≡ aboveOk (at (now («row_offsets» .entry))) (at (now (cols .entry))) (at (now (diagonal .entry))) r ⌝ }
+{
+    let a = law::wide(diagonal[r]) + 1;
     let b = law::wide(row_offsets[r + 1]);
-    let col = r as u32;
     let mut ok = true;
     for k in a..b {
         let row = law::wide(cols[k]);
-        ok = ok & (index::block_index(row_offsets, cols, row, col) != law::ABSENT);
+        ok = ok & mirror::below(n, row_offsets, cols, diagonal, row, r);
     }
     ok
 }
 
-fn all_mirrors_ok(n: usize, row_offsets: &[u32], cols: &[u32]) -> bool
-    requires { ⌜ Lined n (now «row_offsets») (now cols) ⌝ }
-    ensures { λ x. ⌜ x ≡ every (mirrorsOk (at (now («row_offsets» .entry))) (at (now (cols .entry)))) 0 n ⌝ }
+fn all_above_ok(n: usize, row_offsets: &[u32], cols: &[u32], diagonal: &[u32]) -> bool
+    requires { ⌜ Halved n (now «row_offsets») (now cols) (now diagonal) ⌝ }
+    ensures { λ x. ⌜ x ≡ every (aboveOk (at (now («row_offsets» .entry))) (at (now (cols .entry))) (at (now (diagonal .entry)))) 0 n ⌝ }
 {
     let mut ok = true;
     for r in 0..n {
-        ok = ok & mirrors_ok(n, row_offsets, cols, r);
+        ok = ok & above_ok(n, row_offsets, cols, diagonal, r);
     }
     ok
 }
@@ -113,5 +126,5 @@ pub fn well_formed(n: usize, m: usize, row_offsets: &[u32], cols: &[u32], diagon
     if !rows_ok(n, row_offsets, cols, diagonal) {
         return false;
     }
-    all_mirrors_ok(n, row_offsets, cols)
+    even_ok(n, m, row_offsets, diagonal) & all_above_ok(n, row_offsets, cols, diagonal)
 }

@@ -2,4 +2,5 @@
 pub mod formed;
 pub mod given;
 pub mod index;
+mod mirror;
 pub mod row;

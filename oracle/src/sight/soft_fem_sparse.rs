@@ -1,6 +1,6 @@
 
 // Not of the source: oracle/build puts these lines behind it, to show its private fields and to make a
-// matrix of given ones.
+// matrix and a preconditioner of given ones.
 
 impl BlockMatrix {
     pub(crate) fn from_lists(
@@ -31,6 +31,13 @@ impl BlockMatrix {
 }
 
 impl ConjugateGradient {
+    pub(crate) fn from_preconditioner(preconditioner: Vec<Matrix>) -> Self {
+        Self {
+            preconditioner,
+            ..Self::default()
+        }
+    }
+
     pub(crate) fn see_preconditioner(&self) -> &[Matrix] {
         &self.preconditioner
     }

@@ -7,7 +7,8 @@ use Rattle.law.specs.Every.{every}
 use Rattle.law.specs.Truth.{passed, refused}
 use Rattle.shape.specs.Formed.{rowOk, wellFormed}
 use Rattle.shape.specs.Rows.{at}
-use Rattle.shape.specs.Phases.{Spread, spread-of, lined-of}
+use Rattle.shape.specs.Phases.{Spread, Halved, spread-of, halved-of}
+use Rattle.shape.specs.Halves.{halves}
 use Rattle.shape.proofs.formed.well_formed.Statement.{statement}
 use Rattle.shape.proofs.formed.well_formed.Tie as tie
 
@@ -40,18 +41,25 @@ returns-2 c =
     let q = c .before .before in
     rw (passed _ _ (q .before .starts-ok .ensures) (q .if1 .left), refused _ (rows (q .before .before .before .before .before)) (c .before .rows-ok .ensures) (c .if2 .taken))
 
-all-mirrors-ok-requires : tie.Need-all-mirrors-ok-requires
-all-mirrors-ok-requires c κs =
+halved : (c : tie.Else2) → let s = c .before .before .before .before .before .before .before in Halved (s .args .n) (s .args .row-offsets .now) (s .args .cols .now) (s .args .diagonal .now)
+halved c =
     let q = c .before .before in
     let s = q .before .before .before in
-    lined-of _ _ _ _ (spread q) (λ k. omega (arith, s .shared-slice-known2 .given k)) (all-rows c)
+    halved-of _ _ _ _ (spread q) (λ k. omega (arith, s .shared-slice-known2 .given k)) (all-rows c)
+
+even-ok-requires : tie.Need-even-ok-requires
+even-ok-requires c κs = halved c .sides
+
+all-above-ok-requires : tie.Need-all-above-ok-requires
+all-above-ok-requires c κs = halved (c .before)
 
 returns-3 : tie.Need-returns-3
 unfolding wellFormed
 returns-3 c =
-    let q = c .before in
+    let q = c .before .before in
     let p = q .before .before in
-    rw (passed _ _ (p .before .starts-ok .ensures) (p .if1 .left), all-rows q) (c .all-mirrors-ok .ensures)
+    let starts = passed _ _ (p .before .starts-ok .ensures) (p .if1 .left) in
+    rw (starts, all-rows q, halves _ _ _ _ _ starts (all-rows q), c .all-above-ok .ensures, c .before .even-ok .ensures)
 
 pub well-formed-spec : {M : Type 1} → statement M
 well-formed-spec =
@@ -61,5 +69,6 @@ well-formed-spec =
     returns
     rows-ok-requires
     returns-2
-    all-mirrors-ok-requires
+    even-ok-requires
+    all-above-ok-requires
     returns-3)

@@ -1,0 +1,94 @@
+//! The proved solve by conjugate gradients: a C function that tells how it ended in four lent places.
+
+use oracle::call::Call;
+
+extern "C" {
+    fn bracket_conjugate_gradient(
+        n: usize,
+        row_offsets: *const u32,
+        row_offsets_len: usize,
+        cols: *const u32,
+        cols_len: usize,
+        diagonal: *const u32,
+        diagonal_len: usize,
+        blocks: *const f32,
+        blocks_len: usize,
+        preconditioner: *const f32,
+        preconditioner_len: usize,
+        b: *const f32,
+        b_len: usize,
+        tolerance: f32,
+        max_iterations: usize,
+        x: *mut f32,
+        x_len: usize,
+        residual: *mut f32,
+        residual_len: usize,
+        direction: *mut f32,
+        direction_len: usize,
+        a_direction: *mut f32,
+        a_direction_len: usize,
+        z: *mut f32,
+        z_len: usize,
+        how: *mut u32,
+        count: *mut usize,
+        norm: *mut f32,
+        denominator: *mut f32,
+    ) -> u8;
+}
+
+/// The places: the outcome's number, its count, and the bits of its floats.
+#[derive(Clone, Copy, PartialEq, Eq)]
+pub struct Places {
+    pub how: u32,
+    pub count: usize,
+    norm: u32,
+    denominator: u32,
+}
+
+/// What a refused call must leave in them.
+const UNTOUCHED: Places = Places {
+    how: 0x5a5a_5a5a,
+    count: 0x5a5a_5a5a,
+    norm: 0x5a5a_5a5a,
+    denominator: 0x5a5a_5a5a,
+};
+
+/// Makes the call on its own lists, and hands back the refusal's number and the places.
+pub fn made(call: &mut Call) -> (u8, Places) {
+    let mut to = UNTOUCHED;
+    match (&call.numbers[..], &mut call.lists[..]) {
+        (
+            &[n, limit, tolerance],
+            [r, c, d, blocks, p, b, x, residual, direction, a_direction, z],
+        ) => {
+            let tolerance = f32::from_bits(tolerance as u32);
+            let (norm, denominator): (*mut u32, *mut u32) = (&mut to.norm, &mut to.denominator);
+            let refused = unsafe {
+                lend!(bracket_conjugate_gradient(n; r, c, d, blocks, p, b; tolerance, limit; x, residual, direction, a_direction, z;
+                    &mut to.how, &mut to.count, norm.cast(), denominator.cast()))
+            };
+            (refused, to)
+        }
+        _ => unreachable!("a solve has three numbers and eleven lists"),
+    }
+}
+
+/// The refusal's number, and the two lists that tell the outcome. What it doesn't carry must be +0.0,
+/// and a refusal must leave the places: otherwise all four are shown, and differ.
+pub fn left(call: &mut Call) -> (u8, Vec<Vec<u32>>) {
+    let (refused, to) = made(call);
+    let floats = [to.norm, to.denominator];
+    let carried = match to.how {
+        1 => 0,
+        4 => 2,
+        _ => 1,
+    };
+    let told = match refused {
+        0 if floats[carried..].iter().all(|&it| it == 0) => {
+            vec![vec![to.how, to.count as u32], floats[..carried].to_vec()]
+        }
+        _ if refused > 0 && to == UNTOUCHED => vec![Vec::new(); 2],
+        _ => vec![vec![to.how, to.count as u32], floats.to_vec()],
+    };
+    (refused, told)
+}

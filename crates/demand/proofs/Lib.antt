@@ -1,0 +1,5 @@
+mod Answers
+mod Left
+mod Pairs
+pub mod Whole
+mod Readings

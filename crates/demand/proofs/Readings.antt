@@ -1,0 +1,67 @@
+-- Document 01's reading n=4, pair 0-2, through both doors, computed: so the theorems have something to speak of. Assumes nothing.
+use mathlib.Core.Path.{_≡_, refl, ap}
+use mathlib.Core.Bool.{true}
+use mathlib.Core.List.{[], _∷_}
+use lib.ListN.{replicate}
+use Rattle.law.specs.Loop.{fold, over}
+use Rattle.law.specs.Every.{every, some}
+use Rattle.law.specs.Gather.{gather, upTo}
+use Rattle.law.specs.Room.{enough}
+use Rattle.law.specs.Refusal.{verdict}
+use Rattle.law.specs.Promise.{outcome, some-outcome}
+use Rattle.shape.specs.Formed.{slotOk, homeOk, rowOk, stored, mirrorsOk, startsOk, wellFormed}
+use Rattle.shape.specs.Rows.{at}
+use Rattle.shape.specs.Made.{rowOf, colsOf, startOf, slotOf, startsOf, slotsOf}
+use Rattle.shape.specs.Given.{patternRoom, formed}
+use Rattle.build.specs.Pairs.{joined, storedBy, Together}
+use Rattle.build.specs.Build.{builtOf}
+use Rattle.pattern.specs.Building as building
+use Rattle.pattern.specs.Building.{listsRoom, refusals as buildRefusals, work as buildWork}
+use Rattle.pattern.specs.declared.Built.the-variants as built
+use Rattle.order.specs.Order.{neighbours, reach, settle, chooseStart, fresh, placing, orderOf}
+use Rattle.order.specs.Envelope.{firstBlock, firstCol, rowStarts}
+use Rattle.chains.specs.Demand.{Demand3}
+use Rattle.envelope.specs.Plan.{Plan, four, planBy, planOf, lengthOf}
+use Rattle.envelope.specs.Parts.{Work, five}
+use Rattle.envelope.specs.Planning.{In, Out, left, planRoom, early, refusals, lengthFor, laidOver, cleared, work, door}
+use Rattle.envelope.specs.declared.Planned.the-variants.{Done}
+use Rattle.demand.specs.Built.{handed}
+use Rattle.demand.proofs.Whole.{of-pattern-from-pairs}
+
+-- lists full of sevens, each a place longer than needed
+handedIn : building.In
+handedIn = building.given 4 1 (0 ∷ 2 ∷ []) (replicate 6 7) (replicate 7 7) (replicate 5 7) (replicate 3 7)
+
+leftBuilt : building.Out
+leftBuilt = outcome building.door handedIn
+
+plan : Plan
+plan = four (replicate 5 7) (replicate 5 7) (replicate 9 7) (replicate 10 7)
+
+desk : Work
+desk = five (replicate 5 7) (replicate 5 7) (replicate 5 7) (replicate 5 7) (replicate 5 7)
+
+leftPlanned : Out
+leftPlanned = outcome door (handed handedIn leftBuilt plan desk)
+
+-- the pattern that is built
+built-is : leftBuilt ≡ building.left (built.Done 6) (0 ∷ 2 ∷ 3 ∷ 5 ∷ 6 ∷ 7 ∷ []) (0 ∷ 2 ∷ 1 ∷ 0 ∷ 2 ∷ 3 ∷ 7 ∷ []) (0 ∷ 2 ∷ 4 ∷ 5 ∷ 7 ∷ []) (0 ∷ 0 ∷ 7 ∷ [])
+unfolding handedIn leftBuilt outcome buildRefusals buildWork verdict enough listsRoom every some over fold builtOf storedBy joined startsOf slotsOf colsOf startOf slotOf rowOf gather upTo
+built-is = refl
+
+room : enough true (planRoom 4 plan desk) ≡ true
+unfolding plan desk enough planRoom
+room = refl
+
+-- the order 2 0 3 1, its inverse, the rows' first columns and starts, and 16 entries; the sevens behind them stay
+plan-is : leftPlanned ≡ left (Done 16) (four (2 ∷ 0 ∷ 3 ∷ 1 ∷ 7 ∷ []) (1 ∷ 3 ∷ 0 ∷ 2 ∷ 7 ∷ []) (0 ∷ 0 ∷ 0 ∷ 0 ∷ 4 ∷ 4 ∷ 6 ∷ 6 ∷ 7 ∷ []) (0 ∷ 1 ∷ 3 ∷ 6 ∷ 10 ∷ 11 ∷ 13 ∷ 14 ∷ 16 ∷ 7 ∷ []))
+    (five (0 ∷ 0 ∷ 0 ∷ 0 ∷ 7 ∷ []) (0 ∷ 0 ∷ 0 ∷ 0 ∷ 7 ∷ []) (0 ∷ 0 ∷ 0 ∷ 0 ∷ 7 ∷ []) (0 ∷ 0 ∷ 0 ∷ 0 ∷ 7 ∷ []) (0 ∷ 0 ∷ 0 ∷ 0 ∷ 7 ∷ []))
+unfolding handedIn leftBuilt plan desk leftPlanned outcome buildRefusals buildWork verdict enough listsRoom every some over fold builtOf storedBy joined startsOf slotsOf colsOf startOf slotOf rowOf gather upTo planRoom patternRoom early refusals work lengthFor laidOver cleared formed wellFormed startsOk rowOk slotOk homeOk mirrorsOk stored planBy planOf lengthOf orderOf placing fresh chooseStart settle reach neighbours rowStarts firstCol firstBlock
+plan-is = refl
+
+-- DEMAND 3 of these lists, over the pair 0-2
+pub holds : Demand3 4 (Together (0 ∷ 2 ∷ []) 1) (at (2 ∷ 0 ∷ 3 ∷ 1 ∷ 7 ∷ [])) (at (0 ∷ 0 ∷ 0 ∷ 0 ∷ 4 ∷ 4 ∷ 6 ∷ 6 ∷ 7 ∷ [])) (at (0 ∷ 1 ∷ 3 ∷ 6 ∷ 10 ∷ 11 ∷ 13 ∷ 14 ∷ 16 ∷ 7 ∷ []))
+unfolding handedIn leftBuilt leftPlanned
+holds =
+    let r = of-pattern-from-pairs handedIn leftBuilt (some-outcome building.door handedIn) 6 (ap (λ (o : building.Out). o .answer) built-is) plan desk room leftPlanned (some-outcome door (handed handedIn leftBuilt plan desk)) in
+    rw plan-is at (r .demand 16 (ap (λ (o : Out). o .answer) plan-is))

@@ -1,0 +1,2 @@
+pub mod Factorizing
+pub mod Solving

@@ -1,0 +1,122 @@
+// The numbers that calls are refused by. Tests run in phases, so that none reads past a list's end.
+ghost use mathlib.Core.Path.{_≡_};
+ghost use mathlib.Core.Bool.{true};
+ghost use Prim.Native.Nat.{_*_, _≤_, _<_};
+ghost use lib.Dec.{leb};
+ghost use lib.ListN.{length};
+ghost use Rattle.law.specs.Limit.{particles, envelope};
+ghost use Rattle.law.specs.Room.{enough};
+ghost use Rattle.law.specs.Refusal.{verdict};
+ghost use Rattle.fits.specs.Given.{lengthOf};
+ghost use Rattle.direct.specs.Factorizing as factorizing;
+ghost use Rattle.direct.specs.Solving as solving;
+
+// Whether the factor is within the limit.
+fn short(n: usize, row_start: &[u32]) -> bool
+    requires { ⌜ (n ≤ particles) × (2 * n < length (now «row_start»)) ⌝ }
+    ensures { λ r. ⌜ r ≡ leb (lengthOf n (now («row_start» .entry))) envelope ⌝ }
+{
+    fits::given::factor_len(n, row_start) <= law::ENVELOPE
+}
+
+fn factor_room(
+    n: usize,
+    row_offsets: &[u32],
+    blocks: &[f32],
+    row_start: &[u32],
+    values: &[f32],
+) -> bool
+    requires { ⌜ n < length (now «row_offsets») ⌝ }
+    requires { ⌜ (n ≤ particles) × (2 * n < length (now «row_start»)) ⌝ }
+    ensures { λ r. ⌜ r ≡ enough true (factorizing.valuesRoom n (now («row_offsets» .entry)) (now (blocks .entry)) (now («row_start» .entry)) (now (values .entry))) ⌝ }
+{
+    (4 * law::wide(row_offsets[n]) <= blocks.len())
+        & (fits::given::factor_len(n, row_start) <= values.len())
+}
+
+pub fn factorizing(
+    n: usize,
+    row_offsets: &[u32],
+    cols: &[u32],
+    diagonal: &[u32],
+    blocks: &[f32],
+    perm: &[u32],
+    inv_perm: &[u32],
+    first: &[u32],
+    row_start: &[u32],
+    values: &[f32],
+) -> u8
+    ensures { λ r. ⌜ r ≡ verdict (factorizing.refusals (factorizing.given n (now («row_offsets» .entry)) (now (cols .entry)) (now (diagonal .entry)) (now (blocks .entry)) (now (perm .entry)) (now («inv_perm» .entry)) (now (first .entry)) (now («row_start» .entry)) (now (values .entry)))) ⌝ }
+{
+    if law::PARTICLES < n {
+        return 1;
+    }
+    if !shape::given::pattern_room(n, row_offsets, cols, diagonal) {
+        return 3;
+    }
+    if !fits::given::plan_room(n, perm, inv_perm, first, row_start) {
+        return 3;
+    }
+    if !factor_room(n, row_offsets, blocks, row_start, values) {
+        return 3;
+    }
+    if !shape::given::pattern_formed(n, row_offsets, cols, diagonal) {
+        return 5;
+    }
+    if !fits::inside::fits(n, row_offsets, cols, perm, inv_perm, first, row_start) {
+        return 6;
+    }
+    if !short(n, row_start) {
+        return 7;
+    }
+    0
+}
+
+fn solve_room(
+    n: usize,
+    row_start: &[u32],
+    values: &[f32],
+    b: &[f32],
+    x: &[f32],
+    scratch: &[f32],
+) -> bool
+    requires { ⌜ (n ≤ particles) × (2 * n < length (now «row_start»)) ⌝ }
+    ensures { λ r. ⌜ r ≡ enough true (solving.valuesRoom n (now («row_start» .entry)) (now (values .entry)) (now (b .entry)) (now (x .entry)) (now (scratch .entry))) ⌝ }
+{
+    let m = 2 * n;
+    (fits::given::factor_len(n, row_start) <= values.len())
+        & (m <= b.len())
+        & (m <= x.len())
+        & (m <= scratch.len())
+}
+
+pub fn solving(
+    n: usize,
+    perm: &[u32],
+    inv_perm: &[u32],
+    first: &[u32],
+    row_start: &[u32],
+    values: &[f32],
+    b: &[f32],
+    x: &[f32],
+    scratch: &[f32],
+) -> u8
+    ensures { λ r. ⌜ r ≡ verdict (solving.refusals (solving.given n (now (perm .entry)) (now («inv_perm» .entry)) (now (first .entry)) (now («row_start» .entry)) (now (values .entry)) (now (b .entry)) (now (x .entry)) (now (scratch .entry)))) ⌝ }
+{
+    if law::PARTICLES < n {
+        return 1;
+    }
+    if !fits::given::plan_room(n, perm, inv_perm, first, row_start) {
+        return 3;
+    }
+    if !solve_room(n, row_start, values, b, x, scratch) {
+        return 3;
+    }
+    if !fits::plan::plan_ok(n, perm, inv_perm, first, row_start) {
+        return 6;
+    }
+    if !short(n, row_start) {
+        return 7;
+    }
+    0
+}

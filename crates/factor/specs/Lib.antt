@@ -1,0 +1,3 @@
+pub mod Factor
+pub mod Load
+pub mod Entry

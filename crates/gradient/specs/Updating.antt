@@ -1,0 +1,82 @@
+-- THE DOOR `update_preconditioner`: each diagonal block's inverse, or the identity.
+use Prim.Native.Nat.{ℕ, _*_, _≤_}
+use mathlib.Core.Path.{_≡_}
+use mathlib.Core.Bool.{true}
+use mathlib.Core.List.{List, [], _∷_}
+use native.Mathlib.Omega.{arith}
+use lib.ListN.{length}
+use lib.Dec.{leb}
+use lib.Ieee.{Float}
+use borrow.Author.Tests.{leb-true}
+use Rattle.law.specs.Limit.{particles}
+use Rattle.law.specs.Mix.{mix}
+use Rattle.law.specs.Room.{Room, enough, enough-is}
+use Rattle.law.specs.Refusal.{Test, unless, Rising, verdict, all-pass}
+use Rattle.law.specs.Promise.{Door}
+use Rattle.shape.specs.Rows.{at, Pattern, row-end}
+use Rattle.shape.specs.Given.{patternRoom, formed, pattern}
+use Rattle.turn.specs.Inverse.{inverseAt, Slots}
+use Rattle.gradient.specs.declared.Updated.{Updated}
+use Rattle.gradient.specs.declared.Updated.the-variants.{Refused, Done}
+
+pub record In : Type 0 where
+  pub n : ℕ
+  pub row-offsets : List ℕ
+  pub cols : List ℕ
+  pub diagonal : List ℕ
+  pub blocks : List Float
+  pub preconditioner : List Float
+
+pub record Out : Type 0 where
+  pub answer : Updated
+  pub preconditioner : List Float
+
+abbrev pub given : ℕ → List ℕ → List ℕ → List ℕ → List Float → List Float → In
+given n starts cols diagonal blocks preconditioner = record { n = n; row-offsets = starts; cols = cols; diagonal = diagonal; blocks = blocks; preconditioner = preconditioner }
+
+abbrev pub left : Updated → List Float → Out
+left r preconditioner = record { answer = r; preconditioner = preconditioner }
+
+-- what the values and the preconditioner need, and what they have
+unfoldable pub inversesRoom : ℕ → List ℕ → List Float → List Float → Room
+inversesRoom n starts blocks preconditioner = (4 * at starts n, length blocks) ∷ (4 * n, length preconditioner) ∷ []
+
+-- THE REFUSALS
+unfoldable pub refusals : In → List Test
+refusals i =
+    unless 1 (leb (i .n) particles)
+    ∷ unless 3 (enough true (patternRoom (i .n) (i .row-offsets) (i .cols) (i .diagonal)))
+    ∷ unless 3 (enough true (inversesRoom (i .n) (i .row-offsets) (i .blocks) (i .preconditioner)))
+    ∷ unless 5 (formed (i .n) (i .row-offsets) (i .cols) (i .diagonal))
+    ∷ []
+
+pub in-order : (i : In) → Rising 1 (refusals i)
+unfolding refusals
+in-order i = (omega arith, (omega arith, (omega arith, (omega arith, tt))))
+
+abbrev pub door : Door In Out
+door = record {
+  tests = refusals;
+  in-order = in-order;
+  work = λ i. left Done (mix 4 (i .n) (inverseAt (i .diagonal) (i .blocks)) (i .preconditioner));
+  refuse = λ k i. left (Refused k) (i .preconditioner);
+}
+
+-- what the work requires
+pub record Ready (i : In) : Type 0 where
+  pub slots : Slots (i .n) (i .diagonal) (i .blocks)
+  pub room : 4 * i .n ≤ length (i .preconditioner)
+
+slots-of : (n : ℕ) (starts cols diagonal : List ℕ) (blocks : List Float) → Pattern n starts cols diagonal → 4 * at starts n ≤ length blocks → Slots n diagonal blocks
+slots-of n starts cols diagonal blocks p h =
+    record { marks = p .held .marks; values = λ r l. omega (arith, p .formed .home r l .0 .1, row-end n (at starts) (p .formed .rise) r l) }
+
+pub ready : (i : In) → verdict (refusals i) ≡ 0 → Ready i
+unfolding refusals inversesRoom
+ready i h =
+    let p = all-pass 1 (refusals i) (omega arith) (in-order i) h in
+    let e = enough-is true (inversesRoom (i .n) (i .row-offsets) (i .blocks) (i .preconditioner)) (p .1 .1 .0) in
+    record {
+      slots = slots-of (i .n) (i .row-offsets) (i .cols) (i .diagonal) (i .blocks) (pattern (i .n) (i .row-offsets) (i .cols) (i .diagonal) (leb-true _ _ (p .0)) (p .1 .0) (p .1 .1 .1 .0)) (e .0);
+      room = e .1 .0;
+    }

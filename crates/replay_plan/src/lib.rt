@@ -1,0 +1,2 @@
+// Planning on the words of a stored case's line.
+pub mod operation;

@@ -1,0 +1,63 @@
+-- `run::inner::attempt` meets its contract. Assumes nothing.
+use Rattle.turn.specs.Vectors.{zeros-are}
+use Rattle.run.proofs.Laws.{solve-zero, solve-start}
+use borrow.Author.Needs.{needs}
+use Rattle.run.proofs.inner.attempt.Statement.{statement}
+use Rattle.run.proofs.inner.attempt.Tie as tie
+
+dot-all-requires : tie.Need-dot-all-requires
+dot-all-requires c κs = search needs
+
+clear-requires : tie.Need-clear-requires
+clear-requires c κs = search needs
+
+same-length : tie.Need-same-length
+same-length c = search needs
+
+returns : tie.Need-returns
+returns c =
+    let w = c .before .before in
+    let i = w .before .before in
+    let d = i .before in
+    let s = d .before .before .before .before .before .before .before .before .before .before .before in
+    solve-zero _ _ _ _ _ _ _ _ (d .dot-all .ensures) (i .if1 .taken) _ (zeros-are _ _ _ (s .pre .1 .0 .x-is) (w .clear .ensures))
+
+start-requires : tie.Need-start-requires
+start-requires c κs = search needs
+
+same-length-2 : tie.Need-same-length-2
+same-length-2 c = search needs
+
+same-length-3 : tie.Need-same-length-3
+same-length-3 c = search needs
+
+same-length-4 : tie.Need-same-length-4
+same-length-4 c = search needs
+
+same-length-5 : tie.Need-same-length-5
+same-length-5 c = search needs
+
+same-length-6 : tie.Need-same-length-6
+same-length-6 c = search needs
+
+returns-2 : tie.Need-returns-2
+returns-2 c =
+    let f = c .before .before .before .before .before .before .before .before .before .before in
+    let i = f .before .before .before .before .before .before in
+    solve-start _ _ _ _ _ _ _ _ (i .before .dot-all .ensures) (i .if1 .left) _ (f .start .ensures)
+
+pub attempt-spec : {M : Type 1} → statement M
+attempt-spec =
+    tie.close
+    (tie.spec
+    dot-all-requires
+    clear-requires
+    same-length
+    returns
+    start-requires
+    same-length-2
+    same-length-3
+    same-length-4
+    same-length-5
+    same-length-6
+    returns-2)

@@ -1,0 +1,69 @@
+-- `run::inner::start` meets its contract. Assumes nothing.
+use native.Mathlib.Omega.{arith}
+use Rattle.run.proofs.Laws.{start-near, start-far}
+use borrow.Author.Needs.{needs}
+use Rattle.run.proofs.inner.start.Statement.{statement}
+use Rattle.run.proofs.inner.start.Tie as tie
+
+fresh-requires : tie.Need-fresh-requires
+fresh-requires c κs = search needs
+
+dot-all-requires : tie.Need-dot-all-requires
+dot-all-requires c κs = search needs
+
+same-length : tie.Need-same-length
+same-length c = search needs
+
+same-length-2 : tie.Need-same-length-2
+same-length-2 c = search needs
+
+returns : tie.Need-returns
+returns c =
+    let d = c .before in
+    let f = d .before .before .before .before in
+    start-near _ _ _ _ _ _ _ _ _ (f .fresh .ensures) (d .dot-all .ensures) (c .if1 .taken)
+
+launch-requires : tie.Need-launch-requires
+launch-requires c κs =
+    let f = c .before .before .before .before .before .before .before .before .before .before in
+    let s = f .before .before .before .before .before .before .before .before .before .before .before .before .before in
+    (s .pre .0, (omega (arith, s .pre .1 .0, f .fresh .kept), s .pre .1 .1))
+
+same-length-3 : tie.Need-same-length-3
+same-length-3 c = search needs
+
+same-length-4 : tie.Need-same-length-4
+same-length-4 c = search needs
+
+same-length-5 : tie.Need-same-length-5
+same-length-5 c = search needs
+
+same-length-6 : tie.Need-same-length-6
+same-length-6 c = search needs
+
+same-length-7 : tie.Need-same-length-7
+same-length-7 c = search needs
+
+returns-2 : tie.Need-returns-2
+returns-2 c =
+    let l = c .before .before .before .before .before .before .before .before .before .before in
+    let i = l .before .before .before .before .before .before in
+    let d = i .before in
+    start-far _ _ _ _ _ _ _ _ _ (d .before .before .before .before .fresh .ensures) (d .dot-all .ensures) (i .if1 .left) _ (l .launch .ensures)
+
+pub start-spec : {M : Type 1} → statement M
+start-spec =
+    tie.close
+    (tie.spec
+    fresh-requires
+    dot-all-requires
+    same-length
+    same-length-2
+    returns
+    launch-requires
+    same-length-3
+    same-length-4
+    same-length-5
+    same-length-6
+    same-length-7
+    returns-2)

@@ -1,0 +1,2 @@
+// The direct solve with an envelope factor as it stands.
+pub mod inner;

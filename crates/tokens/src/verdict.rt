@@ -1,0 +1,20 @@
+// The word and number that a call's answer begins with.
+ghost use Prim.Native.Nat.{_≤_};
+ghost use Rattle.tokens.specs.Room.{room};
+use crate::print::Room;
+use crate::print::whole;
+use crate::print::word;
+
+pub fn refused(number: u8, out: &mut Room) -> usize
+    ensures { λ r. ⌜ r ≤ room ⌝ }
+{
+    let at = word(b"refused", out, 0);
+    whole(number as u64, out, at)
+}
+
+pub fn done(number: u64, out: &mut Room) -> usize
+    ensures { λ r. ⌜ r ≤ room ⌝ }
+{
+    let at = word(b"done", out, 0);
+    whole(number, out, at)
+}

@@ -1,0 +1,111 @@
+"""The conjugate gradient: the preconditioner, the solve, and how it ended."""
+
+import math
+
+import matrix
+from matrix import plus, rounded, times
+
+# By document 01's order of the outcomes.
+ZERO, NEAR, CONVERGED, CURVATURE, LIMIT = 1, 2, 3, 4, 5
+
+
+def minus(a, b):
+    return rounded(a - b)
+
+
+def over(a, b):
+    """A quotient of two f32 comes out right too. Python divides by no zero."""
+    if b != 0:
+        return rounded(a / b)
+    return math.nan if a == 0 or math.isnan(a) else math.copysign(math.inf, a) * math.copysign(1.0, b)
+
+
+def inverse(block):
+    c0x, c0y, c1x, c1y = block
+    r = over(1.0, minus(times(c0x, c1y), times(c1x, c0y)))
+    return [times(c1y, r), times(c0y, -r), times(c1x, -r), times(c0x, r)]
+
+
+def update_preconditioner(call):
+    for r in range(call["n"]):
+        slot = call["diagonal"][r]
+        found = inverse(call["blocks"][4 * slot : 4 * slot + 4])
+        call["preconditioner"][4 * r : 4 * r + 4] = found if all(map(math.isfinite, found)) else matrix.IDENTITY
+
+
+def dot(u, v):
+    total = 0.0
+    for k in range(0, len(u), 2):
+        total = plus(total, plus(times(u[k], v[k]), times(u[k + 1], v[k + 1])))
+    return total
+
+
+def product(call, v):
+    given = call | {"x": v, "out": [0.0] * len(v)}
+    matrix.mul(given)
+    return given["out"]
+
+
+def preconditioned(call, v):
+    p, out = call["preconditioner"], []
+    for k in range(0, len(v), 2):
+        c0x, c0y, c1x, c1y = p[2 * k : 2 * k + 4]
+        out.append(plus(times(c0x, v[k]), times(c1x, v[k + 1])))
+        out.append(plus(times(c0y, v[k]), times(c1y, v[k + 1])))
+    return out
+
+
+def along(u, factor, v):
+    """u and a multiple of v."""
+    return [plus(a, times(b, factor)) for a, b in zip(u, v)]
+
+
+def run(call, b, x):
+    """How it ended, after how many turns, with what floats; and x, not rescaled."""
+    length = dot(b, b)
+    if length == 0:
+        return ZERO, 0, [], [0.0] * len(x)
+    threshold = times(times(call["tolerance"], call["tolerance"]), length)
+    residual = [minus(p, q) for p, q in zip(b, product(call, x))]
+    length = dot(residual, residual)
+    if length <= threshold:
+        return NEAR, 0, [length], x
+    direction = preconditioned(call, residual)
+    steep = dot(residual, direction)
+    for turn in range(call["max_iterations"]):
+        bent = product(call, direction)
+        denominator = dot(direction, bent)
+        if not denominator > 0:
+            return CURVATURE, turn, [length, denominator], x
+        step = over(steep, denominator)
+        x = along(x, step, direction)
+        residual = [minus(r, times(q, step)) for r, q in zip(residual, bent)]
+        length = dot(residual, residual)
+        if length <= threshold:
+            return CONVERGED, turn + 1, [length], x
+        z = preconditioned(call, residual)
+        before, steep = steep, dot(residual, z)
+        direction = along(z, over(steep, before), direction)
+    return LIMIT, call["max_iterations"], [length], x
+
+
+def rescaled(call, b, x):
+    denominator = dot(x, product(call, x))
+    if denominator <= 0:
+        return [0.0] * len(x)
+    factor = over(dot(b, x), denominator)
+    factor = 0.0 if factor < 0 else 1.0 if factor > 1 else factor
+    return x if factor == 1 else [times(it, factor) for it in x]
+
+
+def conjugate_gradient(call):
+    length = 2 * call["n"]
+    b, x = call["b"][:length], call["x"][:length]
+    how, count, floats, x = run(call, b, x)
+    call["x"][:length] = rescaled(call, b, x) if how in (CURVATURE, LIMIT) else x
+    for name in "residual", "direction", "a_direction", "z":
+        call[name][:length] = [0.0] * length
+    call |= {"outcome": [how, count], "floats": floats}
+
+
+WORK = {"update_preconditioner": update_preconditioner, "conjugate_gradient": conjugate_gradient}
