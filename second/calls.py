@@ -3,6 +3,7 @@
 import math
 
 import matrix
+import plan
 import rules
 import text
 
@@ -54,6 +55,9 @@ def accepted(draw, word, graph, rest):
         call |= {"count": len(pairs), "pairs": [number for pair in pairs for number in pair]}
     else:
         call |= pattern(n, pairs)
+    if "values" in lists:
+        call |= dict(zip(rules.PLAN, plan.plan_of(plan.joined(call))))
+        call = {name: item for name, item in call.items() if name in ("word", "n", *lists)}
     if "row" in numbers:
         call["row"] = int(draw.random() * n)
     if "col" in numbers:

@@ -78,6 +78,44 @@ def faults_of_pattern(call):
         yield from (put("diagonal", row, value) for value in (diagonal[row] + 1, diagonal[row] - 1, blocks, LARGEST) if value >= 0)
 
 
+def shift(at, columns):
+    """Both rows of a position start further right or left, and the row starts follow."""
+
+    def fault(call):
+        n, first, starts = call["n"], call["first"], call["row_start"]
+        first[2 * at] += columns
+        first[2 * at + 1] += columns
+        for row in range(2 * at, 2 * n):
+            starts[row + 1] = starts[row] + row - first[row] + 1
+
+    return fault
+
+
+def exchange(one, other):
+    """Two particles change places in the order and in its inverse."""
+
+    def fault(call):
+        order, inverse = call["perm"], call["inv_perm"]
+        order[one], order[other] = order[other], order[one]
+        inverse[order[one]], inverse[order[other]] = one, other
+
+    return fault
+
+
+def faults_of_plan(call):
+    n, order, first, starts = (call[name] for name in ("n", "perm", "first", "row_start"))
+    for i in range(n):
+        yield from (put("perm", i, value) for value in (order[(i + 1) % n], n, LARGEST))
+        yield from (put("inv_perm", i, value) for value in (call["inv_perm"][(i + 1) % n], n, LARGEST))
+        yield shift(i, 2 if first[2 * i] < 2 * i else -2 if first[2 * i] else 1)
+        yield shift(i, 1)
+        yield exchange(i, (i + 1) % n)
+    for row in range(2 * n):
+        yield from (put("first", row, value) for value in (first[row] + 1, first[row] + 2, LARGEST))
+    for row in range(2 * n + 1):
+        yield from (put("row_start", row, value) for value in (starts[row] + 1, max(starts[row], 1) - 1, LARGEST))
+
+
 def faults_of_numbers(call):
     n = call["n"]
     yield from (number("n", value) for value in (n + 1, rules.PARTICLES, rules.PARTICLES + 1, LARGEST))
@@ -102,7 +140,12 @@ def faults_of_lengths(call):
 
 def faults(call):
     """Those that change an item come first: the others may leave no item to change."""
-    yield from faults_of_pairs(call) if "pairs" in call else faults_of_pattern(call)
+    if "pairs" in call:
+        yield from faults_of_pairs(call)
+    elif "row_offsets" in call:
+        yield from faults_of_pattern(call)
+    if "values" in call:
+        yield from faults_of_plan(call)
     yield from faults_of_numbers(call)
     yield from faults_of_lengths(call)
 
@@ -126,7 +169,7 @@ def cases(seed):
     draw = random.Random(seed)
     for word, (_, names, _) in text.SHAPES.items():
         # Floats make long lines, so the larger graphs are for the calls without them.
-        for graph in calls.SMALL if "blocks" in names else calls.SMALL + calls.LARGER:
+        for graph in calls.SMALL if text.FLOATS.intersection(names) else calls.SMALL + calls.LARGER:
             call = calls.accepted(draw, word, graph, 1)
             yield call
             yield from (damaged(call, [fault]) for fault in faults(call))

@@ -1,11 +1,12 @@
 #!/usr/bin/env python3
-"""The block matrix, the plan and the conjugate gradient of document 01 a second time. `answer`: case lines in, answer lines out. `cases SEED`: damaged input."""
+"""The block matrix, the plan, the direct solve and the conjugate gradient of document 01 a second time. `answer`: case lines in, answer lines out. `cases SEED`: damaged input."""
 
 import sys
 
 sys.dont_write_bytecode = True
 
 import damage
+import direct
 import gradient
 import matrix
 import plan
@@ -13,19 +14,21 @@ import rules
 import text
 
 
-WORK = matrix.WORK | {"plan": plan.plan} | gradient.WORK
+WORK = matrix.WORK | {"plan": plan.plan, "factorize": direct.factorize, "solve": direct.solve} | gradient.WORK
 
 
 def answer(line):
     call = text.read(line)
     refused = rules.refusal(call)
     # Planning's 7 is the one refusal that changes a list.
-    if refused == 7:
+    if refused == 7 and call["word"] == "plan":
         plan.clear_work(call)
     if refused:
         return text.answer_line(call, ["refused", refused])
-    number = WORK[call["word"]](call)
-    return text.answer_line(call, ["done"] if number is None else ["done", number])
+    came = WORK[call["word"]](call)
+    if isinstance(came, tuple):
+        return text.answer_line(call, ["failed", *came])
+    return text.answer_line(call, ["done"] if came is None else ["done", came])
 
 
 def main(words):

@@ -1,4 +1,4 @@
-"""Document 01's refusals, as far as the block matrix, planning and the conjugate gradient meet them."""
+"""Document 01's refusals, as far as the block matrix, planning, the direct solve and the conjugate gradient meet them."""
 
 import math
 
@@ -15,18 +15,21 @@ VECTORS = ["b", "x", "residual", "direction", "a_direction", "z"]
 
 
 def needs(call):
-    """How long each list must be, where the row starts are long enough to read the block count."""
+    """How long each list must be, where the row starts are long enough to read the block count and the factor's length."""
     n = call["n"]
     if "pairs" in call:
         count = call["count"]
         room = n + 2 * count
         starts = {"pairs": 2 * count, "row_offsets": n + 1, "cols": room, "diagonal": n}
         return starts | {"blocks": 4 * room, "work": 2 * count}
-    blocks = call["row_offsets"][n]
-    starts = {"row_offsets": n + 1, "cols": blocks, "diagonal": n}
-    planning = dict.fromkeys(PLAN + WORK, n) | {"first": 2 * n, "row_start": 2 * n + 1}
-    solving = dict.fromkeys(VECTORS, 2 * n) | {"preconditioner": 4 * n}
-    return starts | {"blocks": 4 * blocks, "out": 2 * n} | solving | planning
+    long = dict.fromkeys(PLAN + WORK, n) | {"first": 2 * n, "row_start": 2 * n + 1}
+    long |= dict.fromkeys([*VECTORS, "out", "scratch"], 2 * n) | {"preconditioner": 4 * n}
+    if "row_offsets" in call:
+        blocks = call["row_offsets"][n]
+        long |= {"row_offsets": n + 1, "cols": blocks, "diagonal": n, "blocks": 4 * blocks}
+    if "values" in call:
+        long["values"] = call["row_start"][2 * n]
+    return long
 
 
 def too_many_particles(call):
@@ -38,7 +41,8 @@ def too_many_pairs(call):
 
 
 def too_short(call):
-    if len(call["row_offsets"]) < call["n"] + 1:
+    n = call["n"]
+    if any(len(call[name]) < need for name, need in (("row_offsets", n + 1), ("row_start", 2 * n + 1)) if name in call):
         return True
     return any(len(call[name]) < need for name, need in needs(call).items() if name in call)
 
@@ -52,7 +56,7 @@ def outside(call):
 
 
 def misformed(call):
-    return "pairs" not in call and not well_formed(call)
+    return "pairs" not in call and "row_offsets" in call and not well_formed(call)
 
 
 def well_formed(call):
@@ -71,7 +75,31 @@ def well_formed(call):
     return all((c, r) in stored for r, c in stored)
 
 
+def misfitting(call):
+    """A plan that is handed in is there for a factor's list."""
+    return "values" in call and not fits(call)
+
+
+def fits(call):
+    n = call["n"]
+    order, inverse, first, starts = (call[name] for name in PLAN)
+    order, inverse = order[:n], inverse[:n]
+    if sorted(order) != list(range(n)) or any(inverse[v] != i for i, v in enumerate(order)):
+        return False
+    for i in range(n):
+        if first[2 * i] != first[2 * i + 1] or first[2 * i] % 2 or first[2 * i] > 2 * i:
+            return False
+    if starts[0] != 0 or any(starts[row + 1] != starts[row] + row - first[row] + 1 for row in range(2 * n)):
+        return False
+    if "row_offsets" not in call:
+        return True
+    places = ((inverse[r], inverse[c]) for r in range(n) for c in call["cols"][call["row_offsets"][r] : call["row_offsets"][r + 1]])
+    return all(first[2 * i] <= 2 * j for i, j in places if j <= i)
+
+
 def too_wide(call):
+    if "values" in call:
+        return call["row_start"][2 * call["n"]] > ENVELOPE
     return call["word"] == "plan" and plan.plan_of(plan.joined(call))[-1][-1] > ENVELOPE
 
 
@@ -83,7 +111,16 @@ def out_of_range(call):
 
 
 # Lowest number first; a later test may read what an earlier one has found to be there.
-TABLE = [(1, too_many_particles), (2, too_many_pairs), (3, too_short), (4, outside), (5, misformed), (7, too_wide), (8, out_of_range)]
+TABLE = [
+    (1, too_many_particles),
+    (2, too_many_pairs),
+    (3, too_short),
+    (4, outside),
+    (5, misformed),
+    (6, misfitting),
+    (7, too_wide),
+    (8, out_of_range),
+]
 
 
 def refusal(call):

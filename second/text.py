@@ -5,7 +5,7 @@ import struct
 
 from rules import PLAN, VECTORS, WORK
 
-FLOATS = {"blocks", "out", "preconditioner", "tolerance", "floats", *VECTORS}
+FLOATS = {"blocks", "out", "values", "scratch", "preconditioner", "tolerance", "floats", *VECTORS}
 PATTERN = ["row_offsets", "cols", "diagonal"]
 
 # How a solve ended: its outcome's number and count, and the outcome's floats.
@@ -21,6 +21,8 @@ SHAPES = {
     "mul": (["n"], [*PATTERN, "blocks", "x", "out"], ["out"]),
     "make_dirichlet": (["n", "row"], [*PATTERN, "blocks"], ["blocks"]),
     "plan": (["n"], [*PATTERN, *PLAN, *WORK], [*PLAN, *WORK]),
+    "factorize": (["n"], [*PATTERN, "blocks", *PLAN, "values"], ["values"]),
+    "solve": (["n"], [*PLAN, "values", "b", "x", "scratch"], ["x", "scratch"]),
     "update_preconditioner": (["n"], [*PATTERN, "blocks", "preconditioner"], ["preconditioner"]),
     "conjugate_gradient": (["n", "max_iterations", "tolerance"], [*PATTERN, "blocks", "preconditioner", *VECTORS], [*VECTORS[1:], *TOLD]),
 }
@@ -78,7 +80,7 @@ def case_line(call):
 
 def answer_line(call, verdict):
     """The verdict, then every list that the call may change, as it stands now."""
-    tokens = [str(word) for word in verdict]
+    tokens = [answer_token(word) for word in verdict]
     for name in SHAPES[call["word"]][2]:
         tokens += listed(call.get(name, []), answer_token)
     return " ".join(tokens)

@@ -35,7 +35,11 @@ pub fn same(operation: Operation, a: &Left, b: &Left) -> bool {
         let one = |(&x, &y): (&u32, &u32)| x == y || float && nan(x) && nan(y);
         a.len() == b.len() && a.iter().zip(b).all(one)
     });
-    a.refused == b.refused && a.number == b.number && same_lists
+    let same_failure = match (a.failed, b.failed) {
+        (Some((row, x)), Some((other, y))) => row == other && (x == y || nan(x) && nan(y)),
+        (a, b) => a == b,
+    };
+    a.refused == b.refused && a.number == b.number && same_failure && same_lists
 }
 
 fn compare_whole(draw: &mut Draw, operation: Operation) -> usize {

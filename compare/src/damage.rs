@@ -1,6 +1,6 @@
 //! Calls with faults. Some faults do no harm: the second program says which.
 
-use oracle::call::Call;
+use oracle::call::{Call, Operation};
 use oracle::draw::Draw;
 
 fn below(draw: &mut Draw, limit: usize) -> usize {
@@ -11,8 +11,10 @@ fn below(draw: &mut Draw, limit: usize) -> usize {
 pub fn damage(draw: &mut Draw, call: &mut Call) {
     let needs = call.needs();
     for _ in 0..draw.below(3) {
-        match draw.below(4) {
-            0 => drop_block(draw, call),
+        match (draw.below(6), call.operation.plan_at()) {
+            (0, _) => drop_block(draw, call),
+            (1, Some(at)) => shift_rows(draw, call, at),
+            (2, Some(at)) => exchange(draw, call, at),
             _ => change_item(draw, call, &needs),
         }
     }
@@ -23,13 +25,20 @@ pub fn damage(draw: &mut Draw, call: &mut Call) {
             change_number(draw, call);
             cut(draw, call, &needs);
         }
-        _ => change_item(draw, call, &needs),
+        _ => match call.operation.plan_at() {
+            Some(at) if draw.below(2) == 0 => shift_rows(draw, call, at),
+            _ => change_item(draw, call, &needs),
+        },
     }
 }
 
 /// An item of the call's needed part becomes its neighbour, another item, or a number at a limit.
 fn change_item(draw: &mut Draw, call: &mut Call, needs: &[usize]) {
-    let at = below(draw, call.lists.len().min(4));
+    let tested = match call.operation {
+        Operation::Factorize => 8,
+        _ => call.lists.len().min(4),
+    };
+    let at = below(draw, tested);
     let n = call.n() as u32;
     let length = needs[at].min(call.lists[at].len());
     if length == 0 {
@@ -50,7 +59,7 @@ fn change_item(draw: &mut Draw, call: &mut Call, needs: &[usize]) {
 /// The pattern loses a block and stays in order, so that a mirror or a diagonal is missing.
 fn drop_block(draw: &mut Draw, call: &mut Call) {
     let count = call.lists[1].len();
-    if call.operation.builds() || count == 0 {
+    if !call.operation.takes_pattern() || count == 0 {
         return;
     }
     let slot = below(draw, count);
@@ -61,6 +70,44 @@ fn drop_block(draw: &mut Draw, call: &mut Call) {
         places
             .filter(|place| **place as usize > slot && **place != u32::MAX)
             .for_each(|place| *place -= 1);
+    }
+}
+
+/// Both rows of a position start a block further to the right or to the left, and the row starts
+/// follow, so that it is a plan still unless a stored block is left out.
+fn shift_rows(draw: &mut Draw, call: &mut Call, at: usize) {
+    let n = call.n();
+    if n == 0 {
+        return;
+    }
+    let i = below(draw, n);
+    let column = call.lists[at + 2][2 * i];
+    let column = match draw.below(2) {
+        0 if column < 2 * i as u32 => column + 2,
+        _ => column.saturating_sub(2),
+    };
+    call.lists[at + 2][2 * i..2 * i + 2].fill(column);
+    for row in 2 * i..2 * n {
+        let length = (row as u32 + 1).wrapping_sub(call.lists[at + 2][row]);
+        let starts = &mut call.lists[at + 3];
+        starts[row + 1] = starts[row].wrapping_add(length);
+    }
+}
+
+/// Two particles change places in the order and in its inverse: a plan still, but perhaps not of the
+/// pattern.
+fn exchange(draw: &mut Draw, call: &mut Call, at: usize) {
+    let n = call.n();
+    if n == 0 {
+        return;
+    }
+    let places = [below(draw, n), below(draw, n)];
+    call.lists[at].swap(places[0], places[1]);
+    for place in places {
+        let particle = call.lists[at][place] as usize;
+        if let Some(found) = call.lists[at + 1].get_mut(particle) {
+            *found = place as u32;
+        }
     }
 }
 

@@ -123,6 +123,49 @@ extern "C" {
         queue: *mut u32,
         queue_len: usize,
     ) -> u8;
+    fn bracket_factorize(
+        n: usize,
+        row_offsets: *const u32,
+        row_offsets_len: usize,
+        cols: *const u32,
+        cols_len: usize,
+        diagonal: *const u32,
+        diagonal_len: usize,
+        blocks: *const f32,
+        blocks_len: usize,
+        perm: *const u32,
+        perm_len: usize,
+        inv_perm: *const u32,
+        inv_perm_len: usize,
+        first: *const u32,
+        first_len: usize,
+        row_start: *const u32,
+        row_start_len: usize,
+        values: *mut f32,
+        values_len: usize,
+        how: *mut u32,
+        row: *mut usize,
+        pivot: *mut f32,
+    ) -> u8;
+    fn bracket_solve(
+        n: usize,
+        perm: *const u32,
+        perm_len: usize,
+        inv_perm: *const u32,
+        inv_perm_len: usize,
+        first: *const u32,
+        first_len: usize,
+        row_start: *const u32,
+        row_start_len: usize,
+        values: *const f32,
+        values_len: usize,
+        b: *const f32,
+        b_len: usize,
+        x: *mut f32,
+        x_len: usize,
+        scratch: *mut f32,
+        scratch_len: usize,
+    ) -> u8;
     fn bracket_update_preconditioner(
         n: usize,
         row_offsets: *const u32,
@@ -138,12 +181,35 @@ extern "C" {
     ) -> u8;
 }
 
-/// What a refused call must leave in its slot.
+/// What a refused call must leave in its places.
 const UNTOUCHED: u32 = 0x5a5a_5a5a;
 
-/// Makes the call on its own lists, and hands back the refusal's number and the slot that it found.
-pub fn made(call: &mut Call) -> (u8, u32) {
-    let mut slot = UNTOUCHED;
+/// What a call says besides its number and its lists: the slot that it found, or how a factorization
+/// came out, and where.
+#[derive(PartialEq)]
+pub struct Places {
+    slot: u32,
+    how: u32,
+    row: usize,
+    pivot: u32,
+}
+
+const LENT: Places = Places {
+    slot: UNTOUCHED,
+    how: UNTOUCHED,
+    row: UNTOUCHED as usize,
+    pivot: UNTOUCHED,
+};
+
+/// Makes the call on its own lists, and hands back the refusal's number and what the places hold.
+pub fn made(call: &mut Call) -> (u8, Places) {
+    let Places {
+        mut slot,
+        mut how,
+        mut row,
+        pivot,
+    } = LENT;
+    let mut pivot = f32::from_bits(pivot);
     // Each function is handed lists of its own parameters' kinds.
     let refused = unsafe {
         match (call.operation, &call.numbers[..], &mut call.lists[..]) {
@@ -174,26 +240,53 @@ pub fn made(call: &mut Call) -> (u8, u32) {
                 };
                 lend!(bracket_plan(n; r, c, d, perm, inv_perm, first, row_start, degrees, placed, mark, level, queue;;))
             }
+            (Factorize, &[n], [r, c, d, blocks, perm, inv_perm, first, row_start, values]) => {
+                lend!(bracket_factorize(n; r, c, d, blocks, perm, inv_perm, first, row_start, values; &mut how, &mut row, &mut pivot;))
+            }
+            (Solve, &[n], [perm, inv_perm, first, row_start, values, b, x, scratch]) => {
+                lend!(bracket_solve(n; perm, inv_perm, first, row_start, values, b, x, scratch;;))
+            }
             (UpdatePreconditioner, &[n], [row_offsets, cols, diagonal, blocks, preconditioner]) => {
                 lend!(bracket_update_preconditioner(n; row_offsets, cols, diagonal, blocks, preconditioner;;))
             }
-            (ConjugateGradient, ..) => return (endings::made(call).0, slot),
+            (ConjugateGradient, ..) => return (endings::made(call).0, LENT),
             _ => unreachable!("a call has the numbers and lists of its operation"),
         }
     };
-    (refused, slot)
+    let pivot = pivot.to_bits();
+    let places = Places {
+        slot,
+        how,
+        row,
+        pivot,
+    };
+    (refused, places)
+}
+
+/// The row and pivot of a failed factorization. A whole one leaves its places as they were.
+fn failed(places: &Places, call: &Call) -> Option<(usize, u32)> {
+    let &Places {
+        how, row, pivot, ..
+    } = places;
+    let untouched = row == LENT.row && pivot == LENT.pivot;
+    match how {
+        0 if untouched => None,
+        1 => Some((row, pivot)),
+        _ => panic!("a factorization is whole or fails: {}", call.line()),
+    }
 }
 
 /// What the proved call leaves. A list that it is only shown must stay as it is.
 pub fn left(call: &Call) -> Left {
     let mut after = call.clone();
-    let mut slot = UNTOUCHED;
-    let (refused, told) = match call.operation {
-        ConjugateGradient => endings::left(&mut after),
+    let (refused, places, told) = match call.operation {
+        ConjugateGradient => {
+            let (refused, told) = endings::left(&mut after);
+            (refused, LENT, told)
+        }
         _ => {
-            let (refused, found) = made(&mut after);
-            slot = found;
-            (refused, Vec::new())
+            let (refused, places) = made(&mut after);
+            (refused, places, Vec::new())
         }
     };
     let first_changed = call.operation.first_changed();
@@ -202,16 +295,24 @@ pub fn left(call: &Call) -> Left {
         "a list that is only read was written: {}",
         call.line()
     );
+    assert!(
+        refused == 0 || places == LENT,
+        "a refusal wrote a place: {}",
+        call.line()
+    );
     let number = match call.operation {
-        BlockIndex | DiagonalIndex => Some(slot as usize),
+        BlockIndex | DiagonalIndex => Some(places.slot as usize),
         FromPairs | PatternFromPairs if refused == 0 => Some(after.lists[1][call.n()] as usize),
         Plan if refused == 0 => Some(after.lists[6][2 * call.n()] as usize),
         _ => None,
     };
     Left {
         refused,
-        // A slot that a refused call wrote is shown, and differs.
-        number: number.filter(|_| refused == 0 || slot != UNTOUCHED),
+        failed: match call.operation {
+            Factorize if refused == 0 => failed(&places, call),
+            _ => None,
+        },
+        number: number.filter(|_| refused == 0),
         lists: [after.lists.split_off(first_changed), told].concat(),
     }
 }

@@ -78,6 +78,42 @@ extern "C" {
         queue: *mut u32,
         queue_len: usize,
     ) -> usize;
+    fn inside_factorize(
+        n: usize,
+        row_offsets: *const u32,
+        row_offsets_len: usize,
+        cols: *const u32,
+        cols_len: usize,
+        blocks: *const f32,
+        blocks_len: usize,
+        inv_perm: *const u32,
+        inv_perm_len: usize,
+        first: *const u32,
+        first_len: usize,
+        row_start: *const u32,
+        row_start_len: usize,
+        values: *mut f32,
+        values_len: usize,
+    ) -> bool;
+    fn inside_solve(
+        n: usize,
+        perm: *const u32,
+        perm_len: usize,
+        inv_perm: *const u32,
+        inv_perm_len: usize,
+        first: *const u32,
+        first_len: usize,
+        row_start: *const u32,
+        row_start_len: usize,
+        values: *const f32,
+        values_len: usize,
+        b: *const f32,
+        b_len: usize,
+        x: *mut f32,
+        x_len: usize,
+        scratch: *mut f32,
+        scratch_len: usize,
+    );
     fn inside_block_index(
         row_offsets: *const u32,
         row_offsets_len: usize,
@@ -168,6 +204,24 @@ pub fn plan(call: &mut Call) {
             black_box(
                 lend!(inside_plan(; r, c, perm, inv_perm, first, row_start, degrees, placed, mark, level, queue;;)),
             );
+        },
+        _ => unreachable!("{SHAPE}"),
+    }
+}
+
+pub fn factorize(call: &mut Call) {
+    match (&call.numbers[..], &mut call.lists[..]) {
+        (&[n], [r, c, _, blocks, _, inv_perm, first, row_start, values]) => unsafe {
+            assert!(lend!(inside_factorize(n; r, c, blocks, inv_perm, first, row_start, values;;)));
+        },
+        _ => unreachable!("{SHAPE}"),
+    }
+}
+
+pub fn solve(call: &mut Call) {
+    match (&call.numbers[..], &mut call.lists[..]) {
+        (&[n], [perm, inv_perm, first, row_start, values, b, x, scratch]) => unsafe {
+            lend!(inside_solve(n; perm, inv_perm, first, row_start, values, b, x, scratch;;));
         },
         _ => unreachable!("{SHAPE}"),
     }

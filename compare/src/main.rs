@@ -6,6 +6,7 @@ mod lend;
 mod buffers;
 mod calls;
 mod damage;
+mod direct;
 mod doors;
 mod endings;
 mod ends;
@@ -42,10 +43,14 @@ fn main() -> ExitCode {
     };
     let draw = &mut Draw::new(SEED);
     let numbers = root(sides, draw) + plane(sides, draw) + lent(sides, draw);
-    let differences =
-        numbers + calls::compare(draw) + plans::compare(draw) + gradients::compare(draw);
+    let differences = numbers
+        + calls::compare(draw)
+        + plans::compare(draw)
+        + direct::compare(draw)
+        + gradients::compare(draw);
     times::report(draw);
     plans::times(draw);
+    direct::times(draw);
     gradients::times(draw);
     if differences == 0 {
         ExitCode::SUCCESS

@@ -1,11 +1,10 @@
-//! The Rust over lists: what an accepted call leaves. Its block matrix is here, its plan and its
+//! The Rust over lists: what an accepted call leaves. Its block matrix is here, its plan, its factor and its
 //! conjugate gradient next door.
 
 use crate::call::{building_needs, Call, Left, Operation};
-use crate::gradient;
-use crate::math::{Matrix, Vector};
-use crate::plan;
+use crate::math::{Matrix, Real, Vector};
 use crate::soft_fem::soft_fem_sparse::BlockMatrix;
+use crate::{direct, gradient, plan};
 
 /// The Rust's own matrix, for calls without a line.
 pub struct Blocks(pub(crate) BlockMatrix);
@@ -52,6 +51,12 @@ impl Blocks {
     pub fn make_dirichlet(&mut self, row: u32) {
         self.0.make_dirichlet(row);
     }
+
+    /// A particle's own block at row and column d.
+    pub(crate) fn corner(&self, particle: u32, d: usize) -> Real {
+        let slot = self.0.diagonal_index(particle);
+        self.0.blocks[slot as usize].col(d)[d]
+    }
 }
 
 pub(crate) fn block(bits: &[u32]) -> Matrix {
@@ -95,14 +100,16 @@ pub fn left(call: &Call) -> Left {
         Operation::Plan => planned(call),
         Operation::UpdatePreconditioner => gradient::updated(call, &matrix(call, &call.lists[3])),
         Operation::ConjugateGradient => gradient::solved(call, &matrix(call, &call.lists[3])),
+        Operation::Factorize => direct::factorized(call, &matrix(call, &call.lists[3])),
+        Operation::Solve => direct::solved(call),
     }
 }
 
 pub(crate) fn done(number: Option<usize>, lists: Vec<Vec<u32>>) -> Left {
     Left {
-        refused: 0,
         number,
         lists,
+        ..Left::default()
     }
 }
 

@@ -17,6 +17,8 @@ pub enum Operation {
     Mul,
     MakeDirichlet,
     Plan,
+    Factorize,
+    Solve,
     UpdatePreconditioner,
     ConjugateGradient,
 }
@@ -37,9 +39,13 @@ pub const MATRIX: [Operation; 7] = [
 
 impl Operation {
     pub fn all() -> impl Iterator<Item = Self> {
-        MATRIX
-            .into_iter()
-            .chain([Plan, UpdatePreconditioner, ConjugateGradient])
+        MATRIX.into_iter().chain([
+            Plan,
+            Factorize,
+            Solve,
+            UpdatePreconditioner,
+            ConjugateGradient,
+        ])
     }
 
     pub fn word(self) -> &'static str {
@@ -52,6 +58,8 @@ impl Operation {
             Mul => "mul",
             MakeDirichlet => "make_dirichlet",
             Plan => "plan",
+            Factorize => "factorize",
+            Solve => "solve",
             UpdatePreconditioner => "update_preconditioner",
             ConjugateGradient => "conjugate_gradient",
         }
@@ -61,14 +69,14 @@ impl Operation {
     /// iteration limit and the tolerance's bits.
     pub fn numbers(self) -> usize {
         match self {
-            ClearValues | Mul | Plan | UpdatePreconditioner => 1,
+            ClearValues | Mul | Plan | Factorize | Solve | UpdatePreconditioner => 1,
             FromPairs | PatternFromPairs | DiagonalIndex | MakeDirichlet => 2,
             BlockIndex | ConjugateGradient => 3,
         }
     }
 
-    /// Its lists, in the order of its parameters: the pairs if it builds, the pattern's three, and
-    /// what else it reads or writes.
+    /// Its lists, in the order of its parameters: the pairs if it builds, the pattern's three if it
+    /// takes them, and what else it reads or writes.
     pub fn lists(self) -> &'static [Items] {
         match self {
             FromPairs => &[Whole, Whole, Whole, Whole, Float, Whole],
@@ -78,6 +86,12 @@ impl Operation {
             Mul => &[Whole, Whole, Whole, Float, Float, Float],
             // The plan's four, and five to work in.
             Plan => &[Whole; 12],
+            // The pattern's three and its values, the plan's four, the factor.
+            Factorize => &[
+                Whole, Whole, Whole, Float, Whole, Whole, Whole, Whole, Float,
+            ],
+            // The plan's four, the factor, b, x and the scratch.
+            Solve => &[Whole, Whole, Whole, Whole, Float, Float, Float, Float],
             UpdatePreconditioner => &[Whole, Whole, Whole, Float, Float],
             // Preconditioner, b and x, and four to work in.
             ConjugateGradient => &[
@@ -92,6 +106,8 @@ impl Operation {
             FromPairs | PatternFromPairs => 1,
             BlockIndex | DiagonalIndex | ClearValues | MakeDirichlet | Plan => 3,
             Mul => 5,
+            Solve => 6,
+            Factorize => 8,
             UpdatePreconditioner => 4,
             ConjugateGradient => 6,
         }
@@ -115,6 +131,20 @@ impl Operation {
     pub fn builds(self) -> bool {
         matches!(self, FromPairs | PatternFromPairs)
     }
+
+    /// Whether its first three lists are a pattern's.
+    pub fn takes_pattern(self) -> bool {
+        !self.builds() && self != Solve
+    }
+
+    /// Where the plan's four lists begin, if it is handed a plan.
+    pub fn plan_at(self) -> Option<usize> {
+        match self {
+            Factorize => Some(4),
+            Solve => Some(0),
+            _ => None,
+        }
+    }
 }
 
 /// How long building's lists must be, in the order of `from_pairs`: without its blocks they are
@@ -137,7 +167,8 @@ impl Call {
         self.numbers[0]
     }
 
-    /// How long each list must be. A pattern's row offsets must be long enough to tell.
+    /// How long each list must be. A pattern's row offsets and a handed plan's row starts must be long
+    /// enough to tell.
     pub fn needs(&self) -> Vec<usize> {
         let n = self.n();
         match self.operation {
@@ -151,6 +182,15 @@ impl Call {
                 let pattern = [n + 1, self.lists[0][n] as usize, n];
                 let plan = [n, n, 2 * n, 2 * n + 1];
                 [&pattern[..], &plan, &[n; 5]].concat()
+            }
+            Factorize => {
+                let blocks = self.lists[0][n] as usize;
+                let factor = self.lists[7][2 * n] as usize;
+                vec![n + 1, blocks, n, 4 * blocks, n, n, 2 * n, 2 * n + 1, factor]
+            }
+            Solve => {
+                let (m, factor) = (2 * n, self.lists[3][2 * n] as usize);
+                vec![n, n, m, m + 1, factor, m, m, m]
             }
             UpdatePreconditioner | ConjugateGradient => {
                 let blocks = self.lists[0][n] as usize;
@@ -168,10 +208,12 @@ impl Call {
 }
 
 /// What a call answers, and what it leaves in the lists that it may change.
-#[derive(Clone, PartialEq)]
+#[derive(Clone, Default, PartialEq)]
 pub struct Left {
     /// 0 if the call was accepted.
     pub refused: u8,
+    /// The row whose pivot failed, and the pivot's bits.
+    pub failed: Option<(usize, u32)>,
     pub number: Option<usize>,
     pub lists: Vec<Vec<u32>>,
 }

@@ -5,6 +5,7 @@ use crate::draw::{Draw, SPECIAL};
 use crate::graphs::{self, Graph};
 use crate::plan::ENVELOPE;
 use crate::shapes::{self, SIZED};
+use crate::systems::{self, System, FACTORS, MATRICES, PLANS};
 use crate::text::case_line;
 use crate::{calls, limits, moves, planes, roots, solves};
 
@@ -18,8 +19,12 @@ const LARGER: (usize, usize) = (3, 40);
 /// The same of each kind of graph to plan.
 const PLANNED: (usize, usize) = (5, 9);
 
+/// The same of each kind of matrix to factor, and of each kind of factor.
+const FACTORED: (usize, usize) = (12, 6);
+const SOLVED: (usize, usize) = (18, 6);
+
 /// The same of the conjugate gradient's, small graphs and larger ones.
-const SOLVED: [(usize, usize); 2] = [(160, 4), (16, 20)];
+const ITERATED: [(usize, usize); 2] = [(160, 4), (16, 20)];
 
 pub fn plane(seed: u64) -> Vec<String> {
     let draw = &mut Draw::new(seed);
@@ -94,7 +99,7 @@ pub fn plan(seed: u64) -> Vec<String> {
 pub fn gradient(seed: u64) -> Vec<String> {
     let draw = &mut Draw::new(seed);
     let mut lines = Vec::new();
-    for (turns, most) in SOLVED {
+    for (turns, most) in ITERATED {
         for turn in 0..turns {
             let graph = graphs::drawn(draw, turn, most);
             lines.push(solves::drawn(draw, turn, &graph).line());
@@ -103,6 +108,31 @@ pub fn gradient(seed: u64) -> Vec<String> {
                 lines.push(solves::update(draw, turn / 4, &graph).line());
             }
         }
+    }
+    lines
+}
+
+/// Matrices and factors of every kind, over plans of every kind, and a chain.
+pub fn direct(seed: u64) -> Vec<String> {
+    let draw = &mut Draw::new(seed);
+    let mut lines = Vec::new();
+    for kind in MATRICES {
+        for _ in 0..FACTORED.0 {
+            let system = System::drawn(draw, FACTORED.1);
+            lines.push(systems::factorize(draw, kind, system).line());
+        }
+    }
+    for kind in FACTORS {
+        for _ in 0..SOLVED.0 {
+            let system = System::drawn(draw, SOLVED.1);
+            lines.push(systems::solve(draw, kind, system).line());
+        }
+    }
+    for plan in 0..PLANS.len() {
+        let system = System::new(draw, &graphs::chain(24), plan);
+        lines.push(systems::factorize(draw, MATRICES[0], system).line());
+        let system = System::new(draw, &graphs::chain(24), plan);
+        lines.push(systems::solve(draw, FACTORS[0], system).line());
     }
     lines
 }

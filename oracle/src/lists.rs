@@ -80,9 +80,13 @@ fn read_items(kind: Items, tokens: &[&str]) -> Option<Vec<u32>> {
 impl Left {
     /// The answer line to `call`.
     pub fn line(&self, call: &Call) -> String {
-        let mut tokens = match self.refused {
-            0 => vec!["done".to_string()],
-            number => vec!["refused".to_string(), number.to_string()],
+        let mut tokens = match (self.refused, self.failed) {
+            (0, None) => vec!["done".to_string()],
+            (0, Some((row, pivot))) => {
+                let pivot = answer_token(f32::from_bits(pivot));
+                vec!["failed".to_string(), row.to_string(), pivot]
+            }
+            (number, _) => vec!["refused".to_string(), number.to_string()],
         };
         tokens.extend(self.number.iter().map(usize::to_string));
         for (kind, list) in call.operation.answered().into_iter().zip(&self.lists) {

@@ -1,5 +1,5 @@
 //! `oracle answer`: case lines in, answer lines out. `oracle cases LIST SEED`: a stored list of cases,
-//! `plane`, `pattern`, `plan` or `gradient`.
+//! `plane`, `pattern`, `plan`, `direct` or `gradient`.
 
 use std::io::{self, BufWriter, Write};
 use std::process::ExitCode;
@@ -12,8 +12,11 @@ fn main() -> ExitCode {
         ["cases", "plane", seed] => write_cases(oracle::cases::plane, seed),
         ["cases", "pattern", seed] => write_cases(oracle::cases::pattern, seed),
         ["cases", "plan", seed] => write_cases(oracle::cases::plan, seed),
+        ["cases", "direct", seed] => write_cases(oracle::cases::direct, seed),
         ["cases", "gradient", seed] => write_cases(oracle::cases::gradient, seed),
-        _ => Err("usage: oracle answer | oracle cases plane|pattern|plan|gradient SEED".into()),
+        _ => Err(
+            "usage: oracle answer | oracle cases plane|pattern|plan|direct|gradient SEED".into(),
+        ),
     };
     match done {
         Ok(()) => ExitCode::SUCCESS,

@@ -20,7 +20,7 @@ impl Plan {
     }
 
     /// Order, inverse, first columns and row starts. The last are usize in the Rust.
-    fn lists(&self) -> [Vec<u32>; 4] {
+    pub fn lists(&self) -> [Vec<u32>; 4] {
         let row_start = self.0.see_row_start().iter().map(|&start| start as u32);
         [
             self.0.see_perm().to_vec(),
@@ -49,5 +49,6 @@ pub fn left(call: &Call, pattern: &Blocks) -> Left {
         refused: if fits { 0 } else { 7 },
         number: fits.then_some(envelope),
         lists,
+        ..Left::default()
     }
 }

@@ -1,3 +1,4 @@
 pub mod Handed
 pub mod Numbers
 pub mod Told
+pub mod Direct

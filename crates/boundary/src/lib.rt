@@ -9,6 +9,7 @@ ghost use Rattle.boundary.specs.Handed.{handed, left};
 mod conjugate;
 mod matrix;
 mod plan;
+mod solver;
 
 #[no_mangle]
 pub extern "C" fn bracket_root(x: f32) -> f32

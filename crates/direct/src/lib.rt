@@ -4,8 +4,8 @@ ghost use Rattle.law.specs.Promise.{Promise};
 ghost use Rattle.direct.specs.Factorizing as factorizing;
 ghost use Rattle.direct.specs.Solving as solving;
 
-mod front;
-mod refuse;
+pub mod front;
+pub mod refuse;
 
 pub enum Factored {
     Refused(u8),

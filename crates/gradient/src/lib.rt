@@ -5,8 +5,8 @@ ghost use Rattle.law.specs.Promise.{Promise};
 ghost use Rattle.gradient.specs.Solving as solving;
 ghost use Rattle.gradient.specs.Updating as updating;
 
-mod front;
-mod refuse;
+pub mod front;
+pub mod refuse;
 
 pub enum Updated {
     Refused(u8),

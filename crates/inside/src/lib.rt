@@ -1,2 +1,3 @@
 // For measuring only: see measured.rt.
 mod measured;
+mod solver;

@@ -93,6 +93,10 @@ fn operate(name: &[u8], w: &[u32], out: &mut Room) -> usize
     if check::same(name, b"plan") {
         return replay_plan::operation::plan(w, out);
     }
+    let direct = replay_direct::operation::operate(name, w, out);
+    if direct > 0 {
+        return direct;
+    }
     let at = replay_gradient::operation::operate(name, w, out);
     if at > 0 {
         return at;

@@ -28,7 +28,7 @@ countOf t Limit = t .limit
 countOf t Refused = t .refused
 
 -- the record after calls that asked for these, in order
-pub after : ℕ → Tally → List Asked → Tally
+unfoldable pub after : ℕ → Tally → List Asked → Tally
 after c t [] = t
 after c t (a ∷ l) = after c (countedTo c t a) l
 

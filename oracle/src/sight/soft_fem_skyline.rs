@@ -1,7 +1,26 @@
 
-// Not of the source: oracle/build puts these lines behind it, to show its private fields.
+// Not of the source: oracle/build puts these lines behind it, to show its private fields and to make a
+// factor of given ones.
 
 impl SkylineCholesky {
+    pub(crate) fn from_lists(
+        perm: Vec<u32>,
+        inv_perm: Vec<u32>,
+        first: Vec<u32>,
+        row_start: Vec<usize>,
+        values: Vec<Real>,
+    ) -> Self {
+        let scratch = vec![0.0; first.len()];
+        Self {
+            perm,
+            inv_perm,
+            first,
+            row_start,
+            values,
+            scratch,
+        }
+    }
+
     pub(crate) fn see_perm(&self) -> &[u32] {
         &self.perm
     }

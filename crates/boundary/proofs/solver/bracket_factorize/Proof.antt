@@ -1,0 +1,42 @@
+-- `boundary::solver::bracket_factorize` meets its contract. Assumes nothing.
+use Rattle.boundary.specs.Direct.{told}
+use borrow.Author.Needs.{needs}
+use Rattle.boundary.proofs.solver.bracket_factorize.Statement.{statement}
+use Rattle.boundary.proofs.solver.bracket_factorize.Tie as tie
+
+factorize-requires : tie.Need-factorize-requires
+factorize-requires c κs = search needs
+
+factored-how-requires : tie.Need-factored-how-requires
+factored-how-requires c κs = search needs
+
+failed-row-requires : tie.Need-failed-row-requires
+failed-row-requires c κs = search needs
+
+failed-pivot-requires : tie.Need-failed-pivot-requires
+failed-pivot-requires c κs = search needs
+
+factored-number-requires : tie.Need-factored-number-requires
+factored-number-requires c κs = search needs
+
+same-length : tie.Need-same-length
+same-length c = search needs
+
+returns : tie.Need-returns
+returns c =
+    let p = c .before in
+    let w = p .before in
+    let h = w .before .before in
+    told _ _ _ _ _ _ _ _ (h .before .before .before .before .factorize .ensures) (c .factored-number .ensures) (h .factored-how .ensures) (w .failed-row .ensures) (p .failed-pivot .ensures)
+
+pub bracket-factorize-spec : {M : Type 1} → statement M
+bracket-factorize-spec =
+    tie.close
+    (tie.spec
+    factorize-requires
+    factored-how-requires
+    failed-row-requires
+    failed-pivot-requires
+    factored-number-requires
+    same-length
+    returns)

@@ -1,0 +1,111 @@
+// The direct solver. Each call answers the refusal's number, or 0; the lists are left as the call's own promise says.
+use direct::Factored;
+use direct::Solved;
+ghost use mathlib.Core.Path.{_≡_};
+ghost use Rattle.direct.specs.Factorizing as factorizing;
+ghost use Rattle.direct.specs.Solving as solving;
+ghost use Rattle.boundary.specs.Numbers.{Numbered};
+ghost use Rattle.boundary.specs.Direct.{factoredNumber, solvedNumber, howOf, rowOf, pivotOf, places, Told};
+
+fn factored_number(f: Factored) -> u8
+    ensures { λ r. ⌜ r ≡ factoredNumber f ⌝ }
+{
+    match f {
+        Factored::Refused(k) => k,
+        Factored::Done => 0,
+        Factored::Failed { row: _, pivot: _ } => 0,
+    }
+}
+
+fn factored_how(f: Factored, old: u32) -> u32
+    ensures { λ r. ⌜ r ≡ howOf f old ⌝ }
+{
+    match f {
+        Factored::Refused(_) => old,
+        Factored::Done => 0,
+        Factored::Failed { row: _, pivot: _ } => 1,
+    }
+}
+
+fn failed_row(f: Factored, old: usize) -> usize
+    ensures { λ r. ⌜ r ≡ rowOf f old ⌝ }
+{
+    match f {
+        Factored::Refused(_) => old,
+        Factored::Done => old,
+        Factored::Failed { row, pivot: _ } => row,
+    }
+}
+
+fn failed_pivot(f: Factored, old: f32) -> f32
+    ensures { λ r. ⌜ r ≡ pivotOf f old ⌝ }
+{
+    match f {
+        Factored::Refused(_) => old,
+        Factored::Done => old,
+        Factored::Failed { row: _, pivot } => pivot,
+    }
+}
+
+fn solved_number(s: Solved) -> u8
+    ensures { λ r. ⌜ r ≡ solvedNumber s ⌝ }
+{
+    match s {
+        Solved::Refused(k) => k,
+        Solved::Done => 0,
+    }
+}
+
+// Accepted, how is 0 for a whole factor and 1 for a failure; row and pivot are written by a failure alone.
+#[no_mangle]
+pub extern "C" fn bracket_factorize(
+    n: usize,
+    row_offsets: &[u32],
+    cols: &[u32],
+    diagonal: &[u32],
+    blocks: &[f32],
+    perm: &[u32],
+    inv_perm: &[u32],
+    first: &[u32],
+    row_start: &[u32],
+    values: &mut [f32],
+    how: &mut u32,
+    row: &mut usize,
+    pivot: &mut f32,
+) -> u8
+    ensures { λ r. ⌜ Told (factorizing.given n (now («row_offsets» .entry)) (now (cols .entry)) (now (diagonal .entry)) (now (blocks .entry)) (now (perm .entry)) (now («inv_perm» .entry)) (now (first .entry)) (now («row_start» .entry)) (now (values .entry))) r (now (values .exit)) (places (now (how .entry)) (now (row .entry)) (now (pivot .entry))) (places (now (how .exit)) (now (row .exit)) (now (pivot .exit))) ⌝ }
+{
+    let f = direct::factorize(
+        n,
+        row_offsets,
+        cols,
+        diagonal,
+        blocks,
+        perm,
+        inv_perm,
+        first,
+        row_start,
+        values,
+    );
+    *how = factored_how(f, *how);
+    *row = failed_row(f, *row);
+    *pivot = failed_pivot(f, *pivot);
+    factored_number(f)
+}
+
+#[no_mangle]
+pub extern "C" fn bracket_solve(
+    n: usize,
+    perm: &[u32],
+    inv_perm: &[u32],
+    first: &[u32],
+    row_start: &[u32],
+    values: &[f32],
+    b: &[f32],
+    x: &mut [f32],
+    scratch: &mut [f32],
+) -> u8
+    ensures { λ r. ⌜ Numbered solving.door (λ o. o .answer) solvedNumber (solving.given n (now (perm .entry)) (now («inv_perm» .entry)) (now (first .entry)) (now («row_start» .entry)) (now (values .entry)) (now (b .entry)) (now (x .entry)) (now (scratch .entry))) r (λ a. solving.left a (now (x .exit)) (now (scratch .exit))) ⌝ }
+{
+    solved_number(direct::solve(n, perm, inv_perm, first, row_start, values, b, x, scratch))
+}

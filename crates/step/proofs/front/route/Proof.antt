@@ -1,0 +1,95 @@
+-- `step::front::route` meets its contract. Assumes nothing.
+use Rattle.law.specs.Truth.{both}
+use Rattle.step.specs.Stepping.{directed, iterated}
+use borrow.Author.Needs.{needs}
+use Rattle.step.proofs.front.route.Statement.{statement}
+use Rattle.step.proofs.front.route.Tie as tie
+
+mul-dense : tie.Need-mul-dense
+mul-dense c = search needs
+
+solve-requires : tie.Need-solve-requires
+solve-requires c κs =
+    let t = c .before .before in
+    t .before .before .before .before .before .before .before .before .before .before .before .before .before .before .before .before .before .before .pre .planned (both _ _ (t .if1 .taken) .0)
+
+clear4-requires : tie.Need-clear4-requires
+clear4-requires c κs = search needs
+
+same-length : tie.Need-same-length
+same-length c = search needs
+
+same-length-2 : tie.Need-same-length-2
+same-length-2 c = search needs
+
+same-length-3 : tie.Need-same-length-3
+same-length-3 c = search needs
+
+same-length-4 : tie.Need-same-length-4
+same-length-4 c = search needs
+
+same-length-5 : tie.Need-same-length-5
+same-length-5 c = search needs
+
+same-length-6 : tie.Need-same-length-6
+same-length-6 c = search needs
+
+returns : tie.Need-returns
+returns c =
+    let k = c .before .before .before .before .before .before .before .before in
+    let s = k .before .before .before .before .before .before .before .before .before in
+    directed _ _ _ _ _ _ _ _ (s .before .before .before .if1 .taken) (s .solve .ensures) (k .clear4 .ensures)
+
+iterate-requires : tie.Need-iterate-requires
+iterate-requires c κs = search needs
+
+sweep-requires : tie.Need-sweep-requires
+sweep-requires c κs = λ d. c .before .before .before .before .before .before .before .before .before .before .before .before .before .before .before .before .before .before .before .before .before .before .before .before .before .before .before .before .before .before .before .before .before .before .before .pre .planned d .scratch
+
+same-length-7 : tie.Need-same-length-7
+same-length-7 c = search needs
+
+same-length-8 : tie.Need-same-length-8
+same-length-8 c = search needs
+
+same-length-9 : tie.Need-same-length-9
+same-length-9 c = search needs
+
+same-length-10 : tie.Need-same-length-10
+same-length-10 c = search needs
+
+same-length-11 : tie.Need-same-length-11
+same-length-11 c = search needs
+
+same-length-12 : tie.Need-same-length-12
+same-length-12 c = search needs
+
+returns-2 : tie.Need-returns-2
+returns-2 c =
+    let k = c .before .before in
+    let i = k .before .before .before .before .before .before .before .before .before .before .before .before in
+    iterated _ _ _ _ _ _ _ _ (i .before .before .before .before .before .before .if1 .left) (i .iterate .ensures) (k .sweep .ensures)
+
+pub route-spec : {M : Type 1} → statement M
+route-spec =
+    tie.close
+    (tie.spec
+    mul-dense
+    solve-requires
+    clear4-requires
+    same-length
+    same-length-2
+    same-length-3
+    same-length-4
+    same-length-5
+    same-length-6
+    returns
+    iterate-requires
+    sweep-requires
+    same-length-7
+    same-length-8
+    same-length-9
+    same-length-10
+    same-length-11
+    same-length-12
+    returns-2)

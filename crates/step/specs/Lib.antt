@@ -1,0 +1,3 @@
+pub mod Dense
+pub mod Stepping
+pub mod Marking
