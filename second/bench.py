@@ -44,6 +44,16 @@ def neighbours(n, pairs):
     return [sorted(row) for row in near]
 
 
+def pairs_of(given):
+    return list(zip(given[::2], given[1::2]))
+
+
+def entries(text):
+    """How many entries the envelope of a good text's graph needs, whatever the limits say."""
+    n, _, *given = read(text)
+    return plan.plan_of(neighbours(n, pairs_of(given)))[-1][-1]
+
+
 def refused(no):
     return f"refused {no}\n"
 
@@ -57,7 +67,7 @@ def answer(text):
         return refused(1)
     if count > rules.PAIRS:
         return refused(2)
-    pairs = list(zip(given[::2], given[1::2]))
+    pairs = pairs_of(given)
     if any(a != b and max(a, b) >= n for a, b in pairs):
         return refused(4)
     order, _, _, row_start = plan.plan_of(neighbours(n, pairs))
@@ -125,4 +135,5 @@ def main(words):
         sys.exit("usage: bench.py answer | bench.py table FOLDER | bench.py hold COMMAND..")
 
 
-main(sys.argv[1:])
+if __name__ == "__main__":
+    main(sys.argv[1:])

@@ -25,6 +25,9 @@ VALUES = [0.0, -0.0, 1.0, -1.0, 0.1, 3e38, -3e38, 1e-45, 1e-39, -7.25, 1e20, mat
 
 TOLERANCES = [0.0, -0.0, 1e-45, 0.001, 0.5, 3e38]
 
+# Records of counts: fresh, below the cap by one and at it, and with the largest counts.
+COUNTS = [[0] * 7, [1, 2, 3, 4, 5, 6, 7], [3999999999, 0, 0, 0, 0, 0, 0], [0, 1, 0, 3999999999, 0, 0, 0], [LARGEST] * 7]
+
 
 def pick(draw, items):
     return items[int(draw.random() * len(items))]
@@ -64,11 +67,24 @@ def accepted(draw, word, graph, rest):
         call["col"] = pick(draw, [*range(n + 1), LARGEST])
     if "tolerance" in numbers:
         call |= {"max_iterations": pick(draw, [0, 1, 2, 5, 20]), "tolerance": pick(draw, TOLERANCES)}
+    if "max_dense_dofs" in numbers:
+        call["max_dense_dofs"] = pick(draw, [2 * n, 2 * n + 1])
+    if "factored" in numbers:
+        call |= {"factored": pick(draw, [0, 1]), "counts": pick(draw, COUNTS)}
+    if "entries" in numbers:
+        call |= constraint(draw, n, rest)
     call |= {name: call.get(name, []) for name in lists}
     for name, need in rules.needs(call).items():
-        if name in lists:
+        if name in lists and name != "counts":
             call[name] = call[name] + junk(draw, name, need + rest - len(call[name]))
     return call
+
+
+def constraint(draw, n, rest):
+    """Marks of any byte, and entries whose particles may be repeated."""
+    entries = pick(draw, [1, 2, 3]) if n else 0
+    pinned = [pick(draw, [0, 0, 1, 255]) for _ in range(n + rest)]
+    return {"entries": entries, "pinned": pinned, "particles": [int(draw.random() * n) for _ in range(entries)]}
 
 
 def at_the_limits(draw):

@@ -1,6 +1,7 @@
 """Damaged input: faults in every list and number of every call, alone and several at once."""
 
 import copy
+import itertools
 import math
 import random
 
@@ -10,6 +11,10 @@ import text
 from calls import LARGEST
 
 SEVERAL = 8
+
+# The step's calls have long lines, and their tests of pattern and plan are those of other calls: of these faults they have every third.
+STEP_GRAPHS = [(0, []), (1, []), (2, [(0, 1), (1, 0)])]
+THIRD = 3
 
 
 def put(name, at, value):
@@ -125,6 +130,10 @@ def faults_of_numbers(call):
         yield from (number("count", value) for value in (call["count"] + 1, rules.PAIRS, rules.PAIRS + 1, LARGEST))
     if "row" in call:
         yield from (number("row", value) for value in (n, n + 1, LARGEST))
+    if "max_dense_dofs" in call:
+        yield from (number("max_dense_dofs", value) for value in (0, max(2 * n, 1) - 1, 2 * n, LARGEST))
+    if "entries" in call:
+        yield from (number("entries", value) for value in (0, call["entries"] + 1, rules.ENTRIES, rules.ENTRIES + 1, LARGEST))
     if "tolerance" in call:
         yield from (number("max_iterations", value) for value in (rules.ITERATIONS, rules.ITERATIONS + 1, LARGEST))
         yield from (number("tolerance", value) for value in (-0.0, -1e-45, -1.0, math.inf, -math.inf, math.nan))
@@ -133,9 +142,13 @@ def faults_of_numbers(call):
 def faults_of_lengths(call):
     needs = rules.needs(call)
     for name in text.lists(call):
-        if needs[name]:
+        if needs[name] and name != "counts":
             yield cut(name, needs[name] - 1)
             yield cut(name, 0)
+
+
+def every(call):
+    return THIRD if "max_dense_dofs" in call else 1
 
 
 def faults(call):
@@ -143,9 +156,11 @@ def faults(call):
     if "pairs" in call:
         yield from faults_of_pairs(call)
     elif "row_offsets" in call:
-        yield from faults_of_pattern(call)
+        yield from itertools.islice(faults_of_pattern(call), None, None, every(call))
     if "values" in call:
-        yield from faults_of_plan(call)
+        yield from itertools.islice(faults_of_plan(call), None, None, every(call))
+    if "entries" in call:
+        yield from (put("particles", at, value) for at in range(call["entries"]) for value in (call["n"], LARGEST))
     yield from faults_of_numbers(call)
     yield from faults_of_lengths(call)
 
@@ -160,16 +175,22 @@ def damaged(call, some):
 def several(draw, call):
     """Two or three faults at once, so that the order of the numbers shows."""
     known = list(faults(call))
-    for turn in range(SEVERAL):
+    for turn in range(SEVERAL * every(call)):
         places = sorted(int(draw.random() * len(known)) for _ in range(2 + turn % 2))
         yield damaged(call, [known[place] for place in places])
 
 
+def graphs(numbers, names):
+    if "max_dense_dofs" in numbers:
+        return STEP_GRAPHS
+    # Floats make long lines, so the larger graphs are for the calls without them.
+    return calls.SMALL if text.FLOATS.intersection(names) else calls.SMALL + calls.LARGER
+
+
 def cases(seed):
     draw = random.Random(seed)
-    for word, (_, names, _) in text.SHAPES.items():
-        # Floats make long lines, so the larger graphs are for the calls without them.
-        for graph in calls.SMALL if text.FLOATS.intersection(names) else calls.SMALL + calls.LARGER:
+    for word, (numbers, names, _) in text.SHAPES.items():
+        for graph in graphs(numbers, names):
             call = calls.accepted(draw, word, graph, 1)
             yield call
             yield from (damaged(call, [fault]) for fault in faults(call))

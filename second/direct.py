@@ -1,26 +1,7 @@
 """Factoring by a handed plan, and solving by what stands in the factor's list."""
 
-import math
-
-from matrix import plus, rounded, slots, times
-
-
-def less(a, b):
-    return rounded(a - b)
-
-
-def over(a, b):
-    """A quotient; Python raises where the divisor is a zero."""
-    if b != 0:
-        return rounded(a / b)
-    if a == 0 or math.isnan(a):
-        return math.nan
-    return math.copysign(math.inf, math.copysign(1, a) * math.copysign(1, b))
-
-
-def root(a):
-    """Of a number above zero: a double has more than twice the digits."""
-    return rounded(math.sqrt(a))
+from matrix import slots
+from plane import minus, over, plus, root, times
 
 
 class Envelope:
@@ -70,11 +51,11 @@ def factorize(call):
             item = entries[i, j]
             shared = range(max(first[i], first[j]), j)
             if shared:
-                item = less(item, products(entries, i, j, shared))
+                item = minus(item, products(entries, i, j, shared))
             entries[i, j] = over(item, entries[j, j])
         pivot = entries[i, i]
         for k in range(first[i], i):
-            pivot = less(pivot, times(entries[i, k], entries[i, k]))
+            pivot = minus(pivot, times(entries[i, k], entries[i, k]))
         if not pivot > 0:
             return i, pivot
         entries[i, i] = root(pivot)
@@ -90,12 +71,12 @@ def solve(call):
             total = 0.0
             for k in range(first[i], i):
                 total = plus(total, times(entries[i, k], y[k]))
-            item = less(item, total)
+            item = minus(item, total)
         y[i] = over(item, entries[i, i])
     for i in reversed(range(2 * n)):
         y[i] = over(y[i], entries[i, i])
         for k in range(first[i], i):
-            y[k] = less(y[k], times(entries[i, k], y[i]))
+            y[k] = minus(y[k], times(entries[i, k], y[i]))
     for i in range(n):
         call["x"][2 * order[i] : 2 * order[i] + 2] = y[2 * i : 2 * i + 2]
     call["scratch"][: 2 * n] = [0.0] * (2 * n)

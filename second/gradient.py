@@ -3,40 +3,24 @@
 import math
 
 import matrix
-from matrix import plus, rounded, times
+import plane
+from plane import minus, over, plus, times
 
 # By document 01's order of the outcomes.
 ZERO, NEAR, CONVERGED, CURVATURE, LIMIT = 1, 2, 3, 4, 5
 
 
-def minus(a, b):
-    return rounded(a - b)
-
-
-def over(a, b):
-    """A quotient of two f32 comes out right too. Python divides by no zero."""
-    if b != 0:
-        return rounded(a / b)
-    return math.nan if a == 0 or math.isnan(a) else math.copysign(math.inf, a) * math.copysign(1.0, b)
-
-
-def inverse(block):
-    c0x, c0y, c1x, c1y = block
-    r = over(1.0, minus(times(c0x, c1y), times(c1x, c0y)))
-    return [times(c1y, r), times(c0y, -r), times(c1x, -r), times(c0x, r)]
-
-
 def update_preconditioner(call):
     for r in range(call["n"]):
         slot = call["diagonal"][r]
-        found = inverse(call["blocks"][4 * slot : 4 * slot + 4])
+        found = plane.inverse(*call["blocks"][4 * slot : 4 * slot + 4])
         call["preconditioner"][4 * r : 4 * r + 4] = found if all(map(math.isfinite, found)) else matrix.IDENTITY
 
 
 def dot(u, v):
     total = 0.0
     for k in range(0, len(u), 2):
-        total = plus(total, plus(times(u[k], v[k]), times(u[k + 1], v[k + 1])))
+        total = plus(total, plane.dot(*u[k : k + 2], *v[k : k + 2]))
     return total
 
 
@@ -49,9 +33,7 @@ def product(call, v):
 def preconditioned(call, v):
     p, out = call["preconditioner"], []
     for k in range(0, len(v), 2):
-        c0x, c0y, c1x, c1y = p[2 * k : 2 * k + 4]
-        out.append(plus(times(c0x, v[k]), times(c1x, v[k + 1])))
-        out.append(plus(times(c0y, v[k]), times(c1y, v[k + 1])))
+        out += plane.block_times(*p[2 * k : 2 * k + 4], *v[k : k + 2])
     return out
 
 

@@ -1,29 +1,11 @@
 """The accepted calls. Each changes its lists in place and hands back the answer's number, if it has one."""
 
-import math
-import struct
-
 import rules
+from plane import block_times, plus
 
 NOWHERE = 4294967295
 ZERO = [0.0, 0.0, 0.0, 0.0]
 IDENTITY = [1.0, 0.0, 0.0, 1.0]
-
-
-def rounded(x):
-    """The f32 nearest to a double. Sums and products of two f32 come out right: a double has more than twice the digits."""
-    try:
-        return struct.unpack("<f", struct.pack("<f", x))[0]
-    except OverflowError:
-        return math.copysign(math.inf, x)
-
-
-def plus(a, b):
-    return rounded(a + b)
-
-
-def times(a, b):
-    return rounded(a * b)
 
 
 def put(target, items, length):
@@ -82,9 +64,8 @@ def mul(call):
         total = [0.0, 0.0]
         for k in slots(call, r):
             c = call["cols"][k]
-            for i in 0, 1:
-                part = plus(times(blocks[4 * k + i], x[2 * c]), times(blocks[4 * k + 2 + i], x[2 * c + 1]))
-                total[i] = plus(total[i], part)
+            part = block_times(*blocks[4 * k : 4 * k + 4], *x[2 * c : 2 * c + 2])
+            total = [plus(a, b) for a, b in zip(total, part)]
         out[2 * r : 2 * r + 2] = total
 
 

@@ -1,5 +1,5 @@
 #!/usr/bin/env python3
-"""The block matrix, the plan, the direct solve and the conjugate gradient of document 01 a second time. `answer`: case lines in, answer lines out. `cases SEED`: damaged input."""
+"""The plane numbers, the block matrix, the plan, the direct solve, the conjugate gradient and the step of document 01 a second time. `answer`: case lines in, answer lines out. `cases SEED`: damaged input."""
 
 import sys
 
@@ -10,19 +10,26 @@ import direct
 import gradient
 import matrix
 import plan
+import plane
 import rules
+import step
 import text
 
 
-WORK = matrix.WORK | {"plan": plan.plan, "factorize": direct.factorize, "solve": direct.solve} | gradient.WORK
+WORK = matrix.WORK | {"plan": plan.plan, "factorize": direct.factorize, "solve": direct.solve} | gradient.WORK | step.WORK
 
 
 def answer(line):
+    word, *tokens = line.split(" ")
+    if word in plane.WORK:
+        return " ".join(map(text.answer_token, plane.WORK[word](*map(text.float_of, tokens))))
     call = text.read(line)
     refused = rules.refusal(call)
     # Planning's 7 is the one refusal that changes a list.
     if refused == 7 and call["word"] == "plan":
         plan.clear_work(call)
+    if refused and "counts" in call:
+        step.count(call, step.REFUSED)
     if refused:
         return text.answer_line(call, ["refused", refused])
     came = WORK[call["word"]](call)

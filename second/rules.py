@@ -1,4 +1,4 @@
-"""Document 01's refusals, as far as the block matrix, planning, the direct solve and the conjugate gradient meet them."""
+"""Document 01's refusals, as far as the block matrix, planning, the direct solve, the conjugate gradient and the step meet them."""
 
 import math
 
@@ -7,11 +7,18 @@ import plan
 PARTICLES = 1024
 PAIRS = 4096
 ENVELOPE = 16384
+ENTRIES = 16
 ITERATIONS = 4096
 
 PLAN = ["perm", "inv_perm", "first", "row_start"]
 WORK = ["degrees", "placed", "mark", "level", "queue"]
 VECTORS = ["b", "x", "residual", "direction", "a_direction", "z"]
+COUNTS = 7
+
+
+def plan_counts(call):
+    """Where a call says which plans are small enough to factor, the others are neither needed nor tested."""
+    return "values" in call and 2 * call["n"] <= call.get("max_dense_dofs", 2 * call["n"])
 
 
 def needs(call):
@@ -23,13 +30,17 @@ def needs(call):
         starts = {"pairs": 2 * count, "row_offsets": n + 1, "cols": room, "diagonal": n}
         return starts | {"blocks": 4 * room, "work": 2 * count}
     long = dict.fromkeys(PLAN + WORK, n) | {"first": 2 * n, "row_start": 2 * n + 1}
-    long |= dict.fromkeys([*VECTORS, "out", "scratch"], 2 * n) | {"preconditioner": 4 * n}
+    long |= dict.fromkeys([*VECTORS, "out", "rhs", "scratch"], 2 * n) | {"preconditioner": 4 * n}
+    if "entries" in call:
+        long |= {"pinned": n, "particles": call["entries"], "gradients": 2 * call["entries"]}
     if "row_offsets" in call:
         blocks = call["row_offsets"][n]
         long |= {"row_offsets": n + 1, "cols": blocks, "diagonal": n, "blocks": 4 * blocks}
-    if "values" in call:
+    if plan_counts(call):
         long["values"] = call["row_start"][2 * n]
-    return long
+    elif "values" in call:
+        long |= dict.fromkeys([*PLAN, "values", "scratch"], 0)
+    return long | {"counts": COUNTS}
 
 
 def too_many_particles(call):
@@ -37,12 +48,14 @@ def too_many_particles(call):
 
 
 def too_many_pairs(call):
-    return call.get("count", 0) > PAIRS
+    return call.get("count", 0) > PAIRS or call.get("entries", 0) > ENTRIES
 
 
 def too_short(call):
     n = call["n"]
-    if any(len(call[name]) < need for name, need in (("row_offsets", n + 1), ("row_start", 2 * n + 1)) if name in call):
+    if "row_offsets" in call and len(call["row_offsets"]) < n + 1:
+        return True
+    if plan_counts(call) and len(call["row_start"]) < 2 * n + 1:
         return True
     return any(len(call[name]) < need for name, need in needs(call).items() if name in call)
 
@@ -52,6 +65,8 @@ def outside(call):
     if "pairs" in call:
         given = call["pairs"][: 2 * call["count"]]
         return any(a != b and max(a, b) >= n for a, b in zip(given[::2], given[1::2]))
+    if "entries" in call:
+        return any(particle >= n for particle in call["particles"][: call["entries"]])
     return call.get("row", -1) >= n
 
 
@@ -77,7 +92,7 @@ def well_formed(call):
 
 def misfitting(call):
     """A plan that is handed in is there for a factor's list."""
-    return "values" in call and not fits(call)
+    return plan_counts(call) and not fits(call)
 
 
 def fits(call):
@@ -98,7 +113,7 @@ def fits(call):
 
 
 def too_wide(call):
-    if "values" in call:
+    if plan_counts(call):
         return call["row_start"][2 * call["n"]] > ENVELOPE
     return call["word"] == "plan" and plan.plan_of(plan.joined(call))[-1][-1] > ENVELOPE
 

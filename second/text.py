@@ -5,11 +5,17 @@ import struct
 
 from rules import PLAN, VECTORS, WORK
 
-FLOATS = {"blocks", "out", "values", "scratch", "preconditioner", "tolerance", "floats", *VECTORS}
+FLOATS = {"blocks", "out", "values", "scratch", "preconditioner", "tolerance", "gradients", "rhs", "floats", *VECTORS}
 PATTERN = ["row_offsets", "cols", "diagonal"]
 
-# How a solve ended: its outcome's number and count, and the outcome's floats.
+# How a solve ended: its outcome's number and count, and the outcome's floats, a response's gain first.
 TOLD = ["outcome", "floats"]
+
+# What the step's calls are handed first, and the numbers of those that solve.
+MODEL = [*PATTERN, "blocks", *PLAN, "values", "preconditioner"]
+SETTINGS = ["n", "max_iterations", "tolerance", "max_dense_dofs", "factored"]
+STEPPED = ["x", "scratch", *VECTORS[2:], "counts"]
+RESPONDED = ["out", "rhs", *STEPPED[1:]]
 
 # The plain numbers, the lists, and those of the lists that the call may change; behind them what it tells, nothing of it in a refusal.
 SHAPES = {
@@ -25,6 +31,9 @@ SHAPES = {
     "solve": (["n"], [*PLAN, "values", "b", "x", "scratch"], ["x", "scratch"]),
     "update_preconditioner": (["n"], [*PATTERN, "blocks", "preconditioner"], ["preconditioner"]),
     "conjugate_gradient": (["n", "max_iterations", "tolerance"], [*PATTERN, "blocks", "preconditioner", *VECTORS], [*VECTORS[1:], *TOLD]),
+    "factorize_step_matrix": (["n", "max_dense_dofs"], MODEL, MODEL[-2:]),
+    "solve_step": (SETTINGS, [*MODEL, "b", *STEPPED], [*STEPPED, *TOLD]),
+    "response_into": ([*SETTINGS, "entries"], [*MODEL, "pinned", "particles", "gradients", *RESPONDED], [*RESPONDED, *TOLD]),
 }
 
 

@@ -11,7 +11,7 @@ fn below(draw: &mut Draw, limit: usize) -> usize {
 pub fn damage(draw: &mut Draw, call: &mut Call) {
     let needs = call.needs();
     for _ in 0..draw.below(3) {
-        match (draw.below(6), call.operation.plan_at()) {
+        match (draw.below(6), plan_at(call)) {
             (0, _) => drop_block(draw, call),
             (1, Some(at)) => shift_rows(draw, call, at),
             (2, Some(at)) => exchange(draw, call, at),
@@ -25,20 +25,32 @@ pub fn damage(draw: &mut Draw, call: &mut Call) {
             change_number(draw, call);
             cut(draw, call, &needs);
         }
-        _ => match call.operation.plan_at() {
+        _ => match plan_at(call) {
             Some(at) if draw.below(2) == 0 => shift_rows(draw, call, at),
             _ => change_item(draw, call, &needs),
         },
     }
 }
 
+/// Where the plan's lists begin, if they hold one: where it doesn't count they may be anything.
+fn plan_at(call: &Call) -> Option<usize> {
+    let needs = [call.n(), call.n(), 2 * call.n(), 2 * call.n() + 1];
+    let held = |at: &usize| (0..4).all(|i| call.lists[at + i].len() >= needs[i]);
+    call.operation.plan_at().filter(held)
+}
+
 /// An item of the call's needed part becomes its neighbour, another item, or a number at a limit.
 fn change_item(draw: &mut Draw, call: &mut Call, needs: &[usize]) {
     let tested = match call.operation {
-        Operation::Factorize => 8,
+        Operation::Factorize | Operation::FactorizeStepMatrix | Operation::SolveStep => 8,
+        Operation::ResponseInto => 9,
         _ => call.lists.len().min(4),
     };
-    let at = below(draw, tested);
+    let at = match below(draw, tested) {
+        // The entries' particles.
+        8 => 11,
+        at => at,
+    };
     let n = call.n() as u32;
     let length = needs[at].min(call.lists[at].len());
     if length == 0 {
@@ -131,7 +143,11 @@ fn change_number(draw: &mut Draw, call: &mut Call) {
 
 /// A list ends one place before its need, or anywhere before.
 fn cut(draw: &mut Draw, call: &mut Call, needs: &[usize]) {
-    let at = below(draw, call.lists.len());
+    // The counts are lent without a length.
+    let at = below(
+        draw,
+        call.lists.len() - usize::from(call.operation.counts()),
+    );
     if needs[at] == 0 {
         return;
     }

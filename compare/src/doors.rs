@@ -1,6 +1,6 @@
 //! The proved doors: the C functions of the crate `boundary`. A list is a pointer and a length.
 
-use crate::endings;
+use crate::{endings, step};
 use oracle::call::Operation::*;
 use oracle::call::{Call, Left};
 
@@ -250,6 +250,9 @@ pub fn made(call: &mut Call) -> (u8, Places) {
                 lend!(bracket_update_preconditioner(n; row_offsets, cols, diagonal, blocks, preconditioner;;))
             }
             (ConjugateGradient, ..) => return (endings::made(call).0, LENT),
+            (FactorizeStepMatrix | SolveStep | ResponseInto, ..) => {
+                unreachable!("the step's calls are made in `step`")
+            }
             _ => unreachable!("a call has the numbers and lists of its operation"),
         }
     };
@@ -279,15 +282,10 @@ fn failed(places: &Places, call: &Call) -> Option<(usize, u32)> {
 /// What the proved call leaves. A list that it is only shown must stay as it is.
 pub fn left(call: &Call) -> Left {
     let mut after = call.clone();
-    let (refused, places, told) = match call.operation {
-        ConjugateGradient => {
-            let (refused, told) = endings::left(&mut after);
-            (refused, LENT, told)
-        }
-        _ => {
-            let (refused, places) = made(&mut after);
-            (refused, places, Vec::new())
-        }
+    let mut left = match call.operation {
+        ConjugateGradient => endings::left(&mut after),
+        FactorizeStepMatrix | SolveStep | ResponseInto => step::left(&mut after),
+        _ => said(&mut after),
     };
     let first_changed = call.operation.first_changed();
     assert!(
@@ -295,6 +293,14 @@ pub fn left(call: &Call) -> Left {
         "a list that is only read was written: {}",
         call.line()
     );
+    left.lists = [after.lists.split_off(first_changed), left.lists].concat();
+    left
+}
+
+/// What the call answers beside its lists.
+fn said(after: &mut Call) -> Left {
+    let (refused, places) = made(after);
+    let call = &*after;
     assert!(
         refused == 0 || places == LENT,
         "a refusal wrote a place: {}",
@@ -302,8 +308,8 @@ pub fn left(call: &Call) -> Left {
     );
     let number = match call.operation {
         BlockIndex | DiagonalIndex => Some(places.slot as usize),
-        FromPairs | PatternFromPairs if refused == 0 => Some(after.lists[1][call.n()] as usize),
-        Plan if refused == 0 => Some(after.lists[6][2 * call.n()] as usize),
+        FromPairs | PatternFromPairs if refused == 0 => Some(call.lists[1][call.n()] as usize),
+        Plan if refused == 0 => Some(call.lists[6][2 * call.n()] as usize),
         _ => None,
     };
     Left {
@@ -313,6 +319,6 @@ pub fn left(call: &Call) -> Left {
             _ => None,
         },
         number: number.filter(|_| refused == 0),
-        lists: [after.lists.split_off(first_changed), told].concat(),
+        ..Left::default()
     }
 }

@@ -1,6 +1,6 @@
 //! The proved solve by conjugate gradients: a C function that tells how it ended in four lent places.
 
-use oracle::call::Call;
+use oracle::call::{Call, Left};
 
 extern "C" {
     fn bracket_conjugate_gradient(
@@ -41,12 +41,12 @@ extern "C" {
 pub struct Places {
     pub how: u32,
     pub count: usize,
-    norm: u32,
-    denominator: u32,
+    pub norm: u32,
+    pub denominator: u32,
 }
 
 /// What a refused call must leave in them.
-const UNTOUCHED: Places = Places {
+pub const UNTOUCHED: Places = Places {
     how: 0x5a5a_5a5a,
     count: 0x5a5a_5a5a,
     norm: 0x5a5a_5a5a,
@@ -65,7 +65,7 @@ pub fn made(call: &mut Call) -> (u8, Places) {
             let (norm, denominator): (*mut u32, *mut u32) = (&mut to.norm, &mut to.denominator);
             let refused = unsafe {
                 lend!(bracket_conjugate_gradient(n; r, c, d, blocks, p, b; tolerance, limit; x, residual, direction, a_direction, z;
-                    &mut to.how, &mut to.count, norm.cast(), denominator.cast()))
+                    &mut to.how, &mut to.count, norm.cast(), denominator.cast();))
             };
             (refused, to)
         }
@@ -73,22 +73,29 @@ pub fn made(call: &mut Call) -> (u8, Places) {
     }
 }
 
-/// The refusal's number, and the two lists that tell the outcome. What it doesn't carry must be +0.0,
-/// and a refusal must leave the places: otherwise all four are shown, and differ.
-pub fn left(call: &mut Call) -> (u8, Vec<Vec<u32>>) {
+/// The refusal's number, and the two lists that tell the outcome.
+pub fn left(call: &mut Call) -> Left {
     let (refused, to) = made(call);
+    Left {
+        refused,
+        lists: told(refused, to).to_vec(),
+        ..Left::default()
+    }
+}
+
+/// The two lists. What an outcome doesn't carry must be +0.0, and a refusal must leave the places: otherwise
+/// all four are shown, and differ. A direct solve and a response that asked for none carry nothing.
+pub fn told(refused: u8, to: Places) -> [Vec<u32>; 2] {
     let floats = [to.norm, to.denominator];
     let carried = match to.how {
-        1 => 0,
+        0 | 1 | 6 => 0,
         4 => 2,
         _ => 1,
     };
-    let told = match refused {
-        0 if floats[carried..].iter().all(|&it| it == 0) => {
-            vec![vec![to.how, to.count as u32], floats[..carried].to_vec()]
-        }
-        _ if refused > 0 && to == UNTOUCHED => vec![Vec::new(); 2],
-        _ => vec![vec![to.how, to.count as u32], floats.to_vec()],
-    };
-    (refused, told)
+    let ended = vec![to.how, to.count as u32];
+    match refused {
+        0 if floats[carried..].iter().all(|&it| it == 0) => [ended, floats[..carried].to_vec()],
+        _ if refused > 0 && to == UNTOUCHED => [Vec::new(), Vec::new()],
+        _ => [ended, floats.to_vec()],
+    }
 }

@@ -5,9 +5,9 @@ use crate::calls::{beside_second, same};
 use crate::damage::damage;
 use crate::ends::Ends;
 use crate::judge::Judged;
-use crate::times::micros;
+use crate::times::{matrix, micros};
 use crate::{doors, endings, inside};
-use oracle::blocks::{self, vectors, Blocks};
+use oracle::blocks::{self, vectors};
 use oracle::call::{Call, Operation};
 use oracle::draw::Draw;
 use oracle::gradient::Gradient;
@@ -83,7 +83,7 @@ fn drawn(draw: &mut Draw, turn: usize, most: usize) -> Call {
 }
 
 /// A setting at its limits, past them, or none at all.
-fn damage_settings(draw: &mut Draw, call: &mut Call) {
+pub fn damage_settings(draw: &mut Draw, call: &mut Call) {
     let tolerances = [
         -0.0,
         f32::from_bits(1),
@@ -142,11 +142,6 @@ pub fn times(draw: &mut Draw) {
         let runs: Vec<String> = TIMED.map(|limit| solve(draw, &graph, limit)).to_vec();
         println!("{name}: {}, {}", runs.join(", "), update(draw, &graph));
     }
-}
-
-fn matrix(call: &Call) -> Blocks {
-    let pattern = [0, 1, 2].map(|at| call.lists[at].as_slice());
-    Blocks::from_lists(call.n(), pattern, &call.lists[3])
 }
 
 /// From zeros, each time.

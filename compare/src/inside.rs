@@ -156,6 +156,95 @@ extern "C" {
         z: *mut f32,
         z_len: usize,
     ) -> usize;
+    fn inside_step_route(
+        n: usize,
+        row_offsets: *const u32,
+        row_offsets_len: usize,
+        cols: *const u32,
+        cols_len: usize,
+        diagonal: *const u32,
+        diagonal_len: usize,
+        blocks: *const f32,
+        blocks_len: usize,
+        perm: *const u32,
+        perm_len: usize,
+        inv_perm: *const u32,
+        inv_perm_len: usize,
+        first: *const u32,
+        first_len: usize,
+        row_start: *const u32,
+        row_start_len: usize,
+        values: *const f32,
+        values_len: usize,
+        factored: bool,
+        preconditioner: *const f32,
+        preconditioner_len: usize,
+        b: *const f32,
+        b_len: usize,
+        tolerance: f32,
+        max_iterations: usize,
+        max_dense_dofs: usize,
+        x: *mut f32,
+        x_len: usize,
+        scratch: *mut f32,
+        scratch_len: usize,
+        residual: *mut f32,
+        residual_len: usize,
+        direction: *mut f32,
+        direction_len: usize,
+        a_direction: *mut f32,
+        a_direction_len: usize,
+        z: *mut f32,
+        z_len: usize,
+    ) -> bool;
+    fn inside_respond(
+        n: usize,
+        row_offsets: *const u32,
+        row_offsets_len: usize,
+        cols: *const u32,
+        cols_len: usize,
+        diagonal: *const u32,
+        diagonal_len: usize,
+        blocks: *const f32,
+        blocks_len: usize,
+        perm: *const u32,
+        perm_len: usize,
+        inv_perm: *const u32,
+        inv_perm_len: usize,
+        first: *const u32,
+        first_len: usize,
+        row_start: *const u32,
+        row_start_len: usize,
+        values: *const f32,
+        values_len: usize,
+        factored: bool,
+        preconditioner: *const f32,
+        preconditioner_len: usize,
+        tolerance: f32,
+        max_iterations: usize,
+        max_dense_dofs: usize,
+        pinned: *const u8,
+        pinned_len: usize,
+        entries: usize,
+        particles: *const u32,
+        particles_len: usize,
+        gradients: *const f32,
+        gradients_len: usize,
+        out: *mut f32,
+        out_len: usize,
+        rhs: *mut f32,
+        rhs_len: usize,
+        scratch: *mut f32,
+        scratch_len: usize,
+        residual: *mut f32,
+        residual_len: usize,
+        direction: *mut f32,
+        direction_len: usize,
+        a_direction: *mut f32,
+        a_direction_len: usize,
+        z: *mut f32,
+        z_len: usize,
+    ) -> f32;
 }
 
 const SHAPE: &str = "a call has the numbers and lists of its operation";
@@ -255,6 +344,38 @@ pub fn conjugate_gradient(call: &mut Call) {
             black_box(
                 lend!(inside_conjugate_gradient(n; r, c, blocks, p, b; tolerance, limit; x, residual, direction, a_direction, z)),
             );
+        },
+        _ => unreachable!("{SHAPE}"),
+    }
+}
+
+/// By the factor.
+pub fn step_route(call: &mut Call) {
+    match (&call.numbers[..], &mut call.lists[..]) {
+        (
+            &[n, limit, tolerance, dense, factored],
+            [r, c, d, blocks, perm, inv_perm, first, row_start, values, p, b, x, scratch, residual, direction, a_direction, z, _],
+        ) => unsafe {
+            let tolerance = f32::from_bits(tolerance as u32);
+            assert!(
+                lend!(inside_step_route(n; r, c, d, blocks, perm, inv_perm, first, row_start, values; factored != 0; p, b; tolerance, limit, dense;
+                    x, scratch, residual, direction, a_direction, z))
+            );
+        },
+        _ => unreachable!("{SHAPE}"),
+    }
+}
+
+/// The gain.
+pub fn respond(call: &mut Call, pinned: &mut [u8]) -> f32 {
+    match (&call.numbers[..], &mut call.lists[..]) {
+        (
+            &[n, limit, tolerance, dense, factored, entries],
+            [r, c, d, blocks, perm, inv_perm, first, row_start, values, p, _, particles, gradients, out, rhs, scratch, residual, direction, a_direction, z, _],
+        ) => unsafe {
+            let tolerance = f32::from_bits(tolerance as u32);
+            lend!(inside_respond(n; r, c, d, blocks, perm, inv_perm, first, row_start, values; factored != 0; p; tolerance, limit, dense; pinned; entries;
+                particles, gradients, out, rhs, scratch, residual, direction, a_direction, z))
         },
         _ => unreachable!("{SHAPE}"),
     }

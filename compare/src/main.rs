@@ -13,6 +13,7 @@ mod ends;
 mod gradients;
 mod inside;
 mod judge;
+mod met;
 mod planes;
 mod plans;
 mod proved;
@@ -21,6 +22,10 @@ mod rust;
 mod second;
 mod sides;
 mod starts;
+mod step;
+mod step_times;
+mod steps;
+mod tallies;
 mod times;
 
 use judge::compare;
@@ -35,28 +40,69 @@ use std::process::ExitCode;
 const SEED: u64 = 1;
 const TIMED: usize = 100_000;
 
+/// `compare` is the gate's run. `compare rounds SEED COUNT` repeats all but the root and the times, and
+/// `compare roots` takes the root of every bit pattern.
 fn main() -> ExitCode {
     // The compiler is to know nothing of either side when it makes the calls.
     let sides = &Sides {
         proved: black_box(PROVED),
         rust: black_box(RUST),
     };
-    let draw = &mut Draw::new(SEED);
-    let numbers = root(sides, draw) + plane(sides, draw) + lent(sides, draw);
-    let differences = numbers
-        + calls::compare(draw)
-        + plans::compare(draw)
-        + direct::compare(draw)
-        + gradients::compare(draw);
-    times::report(draw);
-    plans::times(draw);
-    direct::times(draw);
-    gradients::times(draw);
+    let words: Vec<String> = std::env::args().skip(1).collect();
+    let words: Vec<&str> = words.iter().map(String::as_str).collect();
+    let differences = match words[..] {
+        [] => gate(sides, &mut Draw::new(SEED)),
+        ["roots"] => every_root(sides),
+        ["rounds", seed, count] => rounds(sides, number(seed), number(count)),
+        _ => panic!("compare, compare roots, or compare rounds SEED COUNT"),
+    };
     if differences == 0 {
         ExitCode::SUCCESS
     } else {
         ExitCode::FAILURE
     }
+}
+
+fn number(word: &str) -> u64 {
+    word.parse().expect("a number")
+}
+
+fn gate(sides: &Sides, draw: &mut Draw) -> usize {
+    let differences = root(sides, draw) + plane(sides, draw) + lent(sides, draw) + calls(draw);
+    times::report(draw);
+    plans::times(draw);
+    direct::times(draw);
+    gradients::times(draw);
+    step_times::times(draw);
+    differences
+}
+
+/// Round k draws from seed + k.
+fn rounds(sides: &Sides, seed: u64, count: u64) -> usize {
+    let round = |k| {
+        let draw = &mut Draw::new(seed + k);
+        plane(sides, draw) + lent(sides, draw) + calls(draw)
+    };
+    (0..count).map(round).sum()
+}
+
+fn calls(draw: &mut Draw) -> usize {
+    calls::compare(draw)
+        + plans::compare(draw)
+        + direct::compare(draw)
+        + gradients::compare(draw)
+        + steps::compare(draw)
+        + tallies::compare(draw)
+}
+
+/// Beside the processor's own instruction: what the Rust calls.
+fn every_root(sides: &Sides) -> usize {
+    let mut judged = judge::Judged::new("root");
+    for bits in 0..=u32::MAX {
+        let x = [f32::from_bits(bits)];
+        judged.judge(&x, &sides.proved.root(x), &sides.rust.root(x));
+    }
+    judged.close(", every bit pattern")
 }
 
 fn root(sides: &Sides, draw: &mut Draw) -> usize {

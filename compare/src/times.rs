@@ -72,7 +72,7 @@ fn from_pairs(draw: &mut Draw, graph: &Graph) -> String {
     beside(&mut call, inside::build, rust)
 }
 
-fn matrix(call: &Call) -> Blocks {
+pub fn matrix(call: &Call) -> Blocks {
     let pattern = [0, 1, 2].map(|at| call.lists[at].as_slice());
     Blocks::from_lists(call.n(), pattern, &call.lists[3])
 }

@@ -1,10 +1,10 @@
-//! The Rust over lists: what an accepted call leaves. Its block matrix is here, its plan, its factor and its
-//! conjugate gradient next door.
+//! The Rust over lists: what an accepted call leaves. Its block matrix is here, its plan, its factor, its
+//! conjugate gradient and its step next door.
 
 use crate::call::{building_needs, Call, Left, Operation};
 use crate::math::{Matrix, Real, Vector};
 use crate::soft_fem::soft_fem_sparse::BlockMatrix;
-use crate::{direct, gradient, plan};
+use crate::{direct, gradient, plan, step};
 
 /// The Rust's own matrix, for calls without a line.
 pub struct Blocks(pub(crate) BlockMatrix);
@@ -102,6 +102,9 @@ pub fn left(call: &Call) -> Left {
         Operation::ConjugateGradient => gradient::solved(call, &matrix(call, &call.lists[3])),
         Operation::Factorize => direct::factorized(call, &matrix(call, &call.lists[3])),
         Operation::Solve => direct::solved(call),
+        Operation::FactorizeStepMatrix => step::marked(call, matrix(call, &call.lists[3])),
+        Operation::SolveStep => step::solved(call, matrix(call, &call.lists[3])),
+        Operation::ResponseInto => step::responded(call, matrix(call, &call.lists[3])),
     }
 }
 

@@ -21,6 +21,9 @@ pub enum Operation {
     Solve,
     UpdatePreconditioner,
     ConjugateGradient,
+    FactorizeStepMatrix,
+    SolveStep,
+    ResponseInto,
 }
 
 use Items::{Float, Whole};
@@ -37,15 +40,19 @@ pub const MATRIX: [Operation; 7] = [
     MakeDirichlet,
 ];
 
+/// The step's.
+pub const STEP: [Operation; 3] = [FactorizeStepMatrix, SolveStep, ResponseInto];
+
 impl Operation {
     pub fn all() -> impl Iterator<Item = Self> {
-        MATRIX.into_iter().chain([
+        let solvers = [
             Plan,
             Factorize,
             Solve,
             UpdatePreconditioner,
             ConjugateGradient,
-        ])
+        ];
+        MATRIX.into_iter().chain(solvers).chain(STEP)
     }
 
     pub fn word(self) -> &'static str {
@@ -62,17 +69,37 @@ impl Operation {
             Solve => "solve",
             UpdatePreconditioner => "update_preconditioner",
             ConjugateGradient => "conjugate_gradient",
+            FactorizeStepMatrix => "factorize_step_matrix",
+            SolveStep => "solve_step",
+            ResponseInto => "response_into",
         }
     }
 
     /// How many plain numbers it takes: n, then the pair count, or the row and its column, or the
-    /// iteration limit and the tolerance's bits.
+    /// iteration limit and the tolerance's bits. A step call has `max_dense_dofs` behind these, the mark
+    /// as 0 or 1 and, for a response, the number of entries.
     pub fn numbers(self) -> usize {
         match self {
             ClearValues | Mul | Plan | Factorize | Solve | UpdatePreconditioner => 1,
-            FromPairs | PatternFromPairs | DiagonalIndex | MakeDirichlet => 2,
+            FromPairs | PatternFromPairs | DiagonalIndex | MakeDirichlet | FactorizeStepMatrix => 2,
             BlockIndex | ConjugateGradient => 3,
+            SolveStep => 5,
+            ResponseInto => 6,
         }
+    }
+
+    /// Which of its numbers is `max_dense_dofs`.
+    pub fn dense_at(self) -> Option<usize> {
+        match self {
+            FactorizeStepMatrix => Some(1),
+            SolveStep | ResponseInto => Some(3),
+            _ => None,
+        }
+    }
+
+    /// Whether its last list is the tally's seven counts, lent without a length.
+    pub fn counts(self) -> bool {
+        matches!(self, SolveStep | ResponseInto)
     }
 
     /// Its lists, in the order of its parameters: the pairs if it builds, the pattern's three if it
@@ -97,6 +124,20 @@ impl Operation {
             ConjugateGradient => &[
                 Whole, Whole, Whole, Float, Float, Float, Float, Float, Float, Float, Float,
             ],
+            // As to factorize, and the preconditioner.
+            FactorizeStepMatrix => &[
+                Whole, Whole, Whole, Float, Whole, Whole, Whole, Whole, Float, Float,
+            ],
+            // These, b and x, the scratch and four to work in, and the counts.
+            SolveStep => &[
+                Whole, Whole, Whole, Float, Whole, Whole, Whole, Whole, Float, Float, Float, Float,
+                Float, Float, Float, Float, Float, Whole,
+            ],
+            // In place of b the pinned marks, the entries' particles and gradients; out, and the right-hand side behind it.
+            ResponseInto => &[
+                Whole, Whole, Whole, Float, Whole, Whole, Whole, Whole, Float, Float, Whole, Whole,
+                Float, Float, Float, Float, Float, Float, Float, Float, Whole,
+            ],
         }
     }
 
@@ -107,25 +148,33 @@ impl Operation {
             BlockIndex | DiagonalIndex | ClearValues | MakeDirichlet | Plan => 3,
             Mul => 5,
             Solve => 6,
-            Factorize => 8,
+            Factorize | FactorizeStepMatrix => 8,
             UpdatePreconditioner => 4,
             ConjugateGradient => 6,
+            SolveStep => 11,
+            ResponseInto => 13,
         }
     }
 
     /// What an answer's lists hold: those that the call may change. Behind a solve's stand its
-    /// outcome's number and count, and the outcome's floats; none of either if it was refused.
+    /// outcome's number and count, and the outcome's floats, a response's gain first; none of either if
+    /// it was refused.
     pub fn answered(self) -> Vec<Items> {
         let mut kinds = self.lists()[self.first_changed()..].to_vec();
-        if self == ConjugateGradient {
+        if self.iterates() {
             kinds.extend([Whole, Float]);
         }
         kinds
     }
 
+    /// Whether it is handed an iteration limit and a tolerance.
+    pub fn iterates(self) -> bool {
+        self == ConjugateGradient || self.counts()
+    }
+
     /// Which of its numbers is a float's bits.
     pub fn float_number(self) -> Option<usize> {
-        (self == ConjugateGradient).then_some(2)
+        self.iterates().then_some(2)
     }
 
     pub fn builds(self) -> bool {
@@ -140,7 +189,7 @@ impl Operation {
     /// Where the plan's four lists begin, if it is handed a plan.
     pub fn plan_at(self) -> Option<usize> {
         match self {
-            Factorize => Some(4),
+            Factorize | FactorizeStepMatrix | SolveStep | ResponseInto => Some(4),
             Solve => Some(0),
             _ => None,
         }
@@ -192,6 +241,7 @@ impl Call {
                 let (m, factor) = (2 * n, self.lists[3][2 * n] as usize);
                 vec![n, n, m, m + 1, factor, m, m, m]
             }
+            FactorizeStepMatrix | SolveStep | ResponseInto => self.step_needs(),
             UpdatePreconditioner | ConjugateGradient => {
                 let blocks = self.lists[0][n] as usize;
                 let mut needs = vec![n + 1, blocks, n, 4 * blocks, 4 * n];
@@ -204,6 +254,37 @@ impl Call {
                 all[..self.operation.lists().len()].to_vec()
             }
         }
+    }
+
+    /// Whether the plan and the factor count.
+    pub fn dense(&self) -> bool {
+        let at = self.operation.dense_at();
+        at.is_some_and(|at| 2 * self.n() <= self.numbers[at])
+    }
+
+    fn step_needs(&self) -> Vec<usize> {
+        let n = self.n();
+        let blocks = self.lists[0][n] as usize;
+        let mut needs = vec![n + 1, blocks, n, 4 * blocks];
+        match self.dense() {
+            true => needs.extend([n, n, 2 * n, 2 * n + 1, self.lists[7][2 * n] as usize]),
+            false => needs.extend([0; 5]),
+        }
+        needs.push(4 * n);
+        if self.operation == FactorizeStepMatrix {
+            return needs;
+        }
+        if self.operation == ResponseInto {
+            let entries = self.numbers[5];
+            needs.extend([n, entries, 2 * entries]);
+        }
+        let scratch = needs.len() + 2;
+        needs.resize(self.operation.lists().len() - 1, 2 * n);
+        if !self.dense() {
+            needs[scratch] = 0;
+        }
+        needs.push(7);
+        needs
     }
 }
 

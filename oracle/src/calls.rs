@@ -52,7 +52,8 @@ pub(crate) fn lengthen(draw: &mut Draw, call: &mut Call, turn: usize) {
     let needs = call.needs();
     for (at, need) in needs.into_iter().enumerate() {
         let list = &mut call.lists[at];
-        let length = need + draw.below(REST) as usize - list.len();
+        let wanted = need + draw.below(REST) as usize;
+        let length = wanted.saturating_sub(list.len());
         match call.operation.lists()[at] {
             Items::Whole => list.extend((0..length).map(|_| meaningless(draw))),
             Items::Float => list.extend(values::drawn(draw, turn + at, length)),

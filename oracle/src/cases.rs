@@ -1,13 +1,13 @@
 //! The stored lists of cases, as functions of a seed.
 
-use crate::call::{Operation, MATRIX};
+use crate::call::{Operation, MATRIX, STEP};
 use crate::draw::{Draw, SPECIAL};
 use crate::graphs::{self, Graph};
 use crate::plan::ENVELOPE;
 use crate::shapes::{self, SIZED};
 use crate::systems::{self, System, FACTORS, MATRICES, PLANS};
 use crate::text::case_line;
-use crate::{calls, limits, moves, planes, roots, solves};
+use crate::{calls, limits, moves, planes, roots, solves, steps};
 
 const EACH: usize = 400;
 
@@ -25,6 +25,9 @@ const SOLVED: (usize, usize) = (18, 6);
 
 /// The same of the conjugate gradient's, small graphs and larger ones.
 const ITERATED: [(usize, usize); 2] = [(160, 4), (16, 20)];
+
+/// The same of each of the step's calls.
+const STEPPED: (usize, usize) = (90, 4);
 
 pub fn plane(seed: u64) -> Vec<String> {
     let draw = &mut Draw::new(seed);
@@ -133,6 +136,22 @@ pub fn direct(seed: u64) -> Vec<String> {
         lines.push(systems::factorize(draw, MATRICES[0], system).line());
         let system = System::new(draw, &graphs::chain(24), plan);
         lines.push(systems::solve(draw, FACTORS[0], system).line());
+    }
+    lines
+}
+
+/// The step's calls on both routes, and a chain.
+pub fn step(seed: u64) -> Vec<String> {
+    let draw = &mut Draw::new(seed);
+    let mut lines = Vec::new();
+    let (turns, most) = STEPPED;
+    for operation in STEP {
+        for turn in 0..turns {
+            let system = System::drawn(draw, most);
+            lines.push(steps::drawn(draw, operation, turn, system).line());
+        }
+        let system = System::new(draw, &graphs::chain(24), 0);
+        lines.push(steps::drawn(draw, operation, 0, system).line());
     }
     lines
 }

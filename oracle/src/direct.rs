@@ -7,7 +7,7 @@ use crate::plan::ENVELOPE;
 use crate::soft_fem::soft_fem_skyline::SkylineCholesky;
 
 /// The Rust's own factor.
-pub struct Direct(SkylineCholesky);
+pub struct Direct(pub(crate) SkylineCholesky);
 
 impl Direct {
     /// Over a plan that fits, which need not be the Rust's: order, inverse, first columns and row
@@ -39,7 +39,7 @@ impl Direct {
 
     /// The row and pivot at which the Rust gave up; it tells neither. The end of its loop is read a
     /// second time over what it left: as far as the failing row, entries beside the diagonal are finished.
-    fn failure(&self, matrix: &Blocks) -> Option<(usize, Real)> {
+    pub(crate) fn failure(&self, matrix: &Blocks) -> Option<(usize, Real)> {
         let (order, starts) = (self.0.see_perm(), self.0.see_row_start());
         (0..DIM * order.len()).find_map(|row| {
             let mut pivot = matrix.corner(order[row / DIM], row % DIM);
@@ -54,7 +54,7 @@ impl Direct {
 }
 
 /// 7, if the handed plan is past the limit. The Rust has none.
-fn too_long(call: &Call, plan: &[Vec<u32>]) -> Option<Left> {
+pub(crate) fn too_long(call: &Call, plan: &[Vec<u32>]) -> Option<Left> {
     let envelope = plan[3][DIM * call.n()] as usize;
     (envelope > ENVELOPE).then(|| Left {
         refused: 7,

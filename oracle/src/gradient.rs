@@ -8,7 +8,7 @@ use crate::reading::{self, Reading};
 use crate::soft_fem::soft_fem_sparse::ConjugateGradient;
 
 /// The Rust's own solver, for calls without a line.
-pub struct Gradient(ConjugateGradient);
+pub struct Gradient(pub(crate) ConjugateGradient);
 
 impl Gradient {
     pub fn updated(matrix: &Blocks) -> Self {
@@ -77,7 +77,7 @@ pub(crate) fn solved(call: &Call, matrix: &Blocks) -> Left {
 }
 
 /// Bit for bit, but any NaN for any NaN.
-fn agree(read: &Reading, x: &[u32]) -> bool {
+pub(crate) fn agree(read: &Reading, x: &[u32]) -> bool {
     let same = |(read, &rust): (&f32, &u32)| {
         read.to_bits() == rust || read.is_nan() && f32::from_bits(rust).is_nan()
     };

@@ -25,6 +25,8 @@ pub mod roots;
 pub mod shapes;
 mod soft_fem;
 pub mod solves;
+pub mod step;
+pub mod steps;
 pub mod systems;
 pub mod text;
 pub mod values;

@@ -1,5 +1,5 @@
 //! `oracle answer`: case lines in, answer lines out. `oracle cases LIST SEED`: a stored list of cases,
-//! `plane`, `pattern`, `plan`, `direct` or `gradient`.
+//! `plane`, `pattern`, `plan`, `direct`, `gradient` or `step`.
 
 use std::io::{self, BufWriter, Write};
 use std::process::ExitCode;
@@ -14,8 +14,10 @@ fn main() -> ExitCode {
         ["cases", "plan", seed] => write_cases(oracle::cases::plan, seed),
         ["cases", "direct", seed] => write_cases(oracle::cases::direct, seed),
         ["cases", "gradient", seed] => write_cases(oracle::cases::gradient, seed),
+        ["cases", "step", seed] => write_cases(oracle::cases::step, seed),
         _ => Err(
-            "usage: oracle answer | oracle cases plane|pattern|plan|direct|gradient SEED".into(),
+            "usage: oracle answer | oracle cases plane|pattern|plan|direct|gradient|step SEED"
+                .into(),
         ),
     };
     match done {

@@ -22,13 +22,13 @@ struct Given {
 const IDENTITY: [f32; 4] = [1.0, 0.0, 0.0, 1.0];
 
 /// The kinds of matrices.
-const MATRICES: u32 = 9;
+pub(crate) const MATRICES: u32 = 9;
 
 fn floats(bits: &[u32]) -> Vec<f32> {
     bits.iter().copied().map(f32::from_bits).collect()
 }
 
-fn bits(list: &[f32]) -> Vec<u32> {
+pub(crate) fn bits(list: &[f32]) -> Vec<u32> {
     list.iter().copied().map(f32::to_bits).collect()
 }
 
@@ -66,7 +66,7 @@ fn scaled(list: Vec<f32>, factor: f32) -> Vec<f32> {
     list.into_iter().map(|it| it * factor).collect()
 }
 
-fn matrix(draw: &mut Draw, pattern: &Blocks, kind: u32) -> Vec<f32> {
+pub(crate) fn matrix(draw: &mut Draw, pattern: &Blocks, kind: u32) -> Vec<f32> {
     let mass = [0.01, 0.5, 4.0][draw.below(3) as usize];
     let whole = draw.from_to(1, 3) as f32;
     match kind {
@@ -108,7 +108,7 @@ fn matrix(draw: &mut Draw, pattern: &Blocks, kind: u32) -> Vec<f32> {
     }
 }
 
-fn values_of(draw: &mut Draw, turn: usize, length: usize) -> Vec<f32> {
+pub(crate) fn values_of(draw: &mut Draw, turn: usize, length: usize) -> Vec<f32> {
     floats(&values::drawn(draw, turn, length))
 }
 
@@ -121,13 +121,13 @@ fn product(pattern: &Blocks, blocks: &[f32], v: &[f32]) -> Vec<f32> {
     out.iter().flat_map(|it| [it.x, it.y]).collect()
 }
 
-fn updated(pattern: &Blocks, blocks: &[f32]) -> Vec<f32> {
+pub(crate) fn updated(pattern: &Blocks, blocks: &[f32]) -> Vec<f32> {
     let n = pattern.pattern()[2].len();
     let matrix = Blocks::from_lists(n, pattern.pattern(), &bits(blocks));
     floats(&Gradient::updated(&matrix).preconditioner())
 }
 
-fn preconditioner(draw: &mut Draw, pattern: &Blocks, blocks: &[f32]) -> Vec<f32> {
+pub(crate) fn preconditioner(draw: &mut Draw, pattern: &Blocks, blocks: &[f32]) -> Vec<f32> {
     let n = pattern.pattern()[2].len();
     match draw.below(12) {
         0 | 1 | 2 => IDENTITY.repeat(n),
@@ -143,7 +143,7 @@ fn preconditioner(draw: &mut Draw, pattern: &Blocks, blocks: &[f32]) -> Vec<f32>
 
 /// Ordinary vectors mostly; whole ones among both zeros, all zeros, squares that overflow or vanish,
 /// anything.
-fn vector(draw: &mut Draw, length: usize) -> Vec<f32> {
+pub(crate) fn vector(draw: &mut Draw, length: usize) -> Vec<f32> {
     let list = |draw: &mut Draw, turn| values_of(draw, turn, length);
     match draw.below(14) {
         0..=4 => list(draw, 0),
@@ -167,7 +167,7 @@ fn vector(draw: &mut Draw, length: usize) -> Vec<f32> {
 }
 
 /// An infinity or a NaN is likely among them.
-fn anything(draw: &mut Draw, length: usize) -> Vec<f32> {
+pub(crate) fn anything(draw: &mut Draw, length: usize) -> Vec<f32> {
     let mut list = values_of(draw, 0, length);
     for _ in 0..1 + draw.below(2) {
         if length > 0 {
@@ -177,7 +177,7 @@ fn anything(draw: &mut Draw, length: usize) -> Vec<f32> {
     list
 }
 
-fn tolerance(draw: &mut Draw) -> f32 {
+pub(crate) fn tolerance(draw: &mut Draw) -> f32 {
     let some = [
         0.0,
         0.0,
@@ -196,7 +196,7 @@ fn tolerance(draw: &mut Draw) -> f32 {
     some[draw.below(some.len() as u32) as usize]
 }
 
-fn limit(draw: &mut Draw) -> usize {
+pub(crate) fn limit(draw: &mut Draw) -> usize {
     let some = [0, 0, 1, 1, 2, 3, 4, 5, 7, 12, 20, 40];
     some[draw.below(some.len() as u32) as usize]
 }

@@ -12,13 +12,14 @@ use crate::shapes::{self, SIZED};
 use crate::values;
 
 /// A pattern, a plan that fits it, and block values.
+#[derive(Clone)]
 pub struct System {
-    n: usize,
-    pattern: [Vec<u32>; 3],
-    plan: [Vec<u32>; 4],
+    pub(crate) n: usize,
+    pub(crate) pattern: [Vec<u32>; 3],
+    pub(crate) plan: [Vec<u32>; 4],
     /// The plan's place among the kinds.
     pub plan_kind: usize,
-    blocks: Vec<f32>,
+    pub(crate) blocks: Vec<f32>,
 }
 
 #[derive(Clone, Copy)]
@@ -184,6 +185,18 @@ impl System {
         Self::new(draw, &graph, plan_kind)
     }
 
+    pub(crate) fn matrix(&self) -> Blocks {
+        let pattern = [0, 1, 2].map(|at| self.pattern[at].as_slice());
+        Blocks::from_lists(self.n, pattern, &bits(&self.blocks))
+    }
+
+    /// The factor's list, and whether it is whole.
+    pub(crate) fn factor(&self) -> (Vec<u32>, bool) {
+        let mut direct = Direct::from_lists(self.n, &self.plan, &[]);
+        let whole = direct.factorize(&self.matrix());
+        (direct.values(), whole)
+    }
+
     fn envelope(&self) -> usize {
         self.plan[3][2 * self.n] as usize
     }
@@ -227,7 +240,7 @@ fn symmetric(system: &mut System, mut entry: impl FnMut() -> f32) {
 }
 
 /// Each entry of the diagonal is above the sum of its row's other sizes.
-fn dominant(draw: &mut Draw, system: &mut System) {
+pub(crate) fn dominant(draw: &mut Draw, system: &mut System) {
     symmetric(system, || draw.middling());
     for i in 0..2 * system.n {
         let (row, d) = (i / 2, i % 2);
@@ -357,11 +370,7 @@ fn bits(floats: &[f32]) -> Vec<u32> {
 
 fn factored(draw: &mut Draw, system: &mut System, matrix: fn(&mut Draw, &mut System)) -> Vec<u32> {
     matrix(draw, system);
-    let pattern = [0, 1, 2].map(|at| system.pattern[at].as_slice());
-    let matrix = Blocks::from_lists(system.n, pattern, &bits(&system.blocks));
-    let mut direct = Direct::from_lists(system.n, &system.plan, &[]);
-    direct.factorize(&matrix);
-    direct.values()
+    system.factor().0
 }
 
 /// Zeros, a NaN, an infinity or a subnormal where a factor's diagonal stands.

@@ -1,4 +1,1 @@
 pub mod Handed
-pub mod Numbers
-pub mod Told
-pub mod Direct

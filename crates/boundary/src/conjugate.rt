@@ -1,102 +1,12 @@
 // The conjugate gradient's calls. Each answers the refusal's number, or 0; the lists are left as the call's own promise says. How a solve ended goes into four lent places:
 // acceptance writes them, +0.0 where the outcome carries no such float, and a refusal leaves them.
-use gradient::Solved;
-use gradient::Updated;
-use turn::Outcome;
-ghost use mathlib.Core.Path.{_≡_};
+use numbers::ended::after;
+use numbers::ended::solved_number;
+use numbers::ended::updated_number;
 ghost use Rattle.gradient.specs.Updating as updating;
 ghost use Rattle.gradient.specs.Solving as solving;
-ghost use Rattle.boundary.specs.Numbers.{Numbered};
-ghost use Rattle.boundary.specs.Told.{updatedNumber, solvedNumber, places, placesOf, toldOf, Told};
-
-pub struct Places {
-    pub how: u32,
-    pub count: usize,
-    pub norm: f32,
-    pub denominator: f32,
-}
-
-fn updated_number(u: Updated) -> u8
-    ensures { λ r. ⌜ r ≡ updatedNumber u ⌝ }
-{
-    match u {
-        Updated::Refused(k) => k,
-        Updated::Done => 0,
-    }
-}
-
-fn solved_number(s: Solved) -> u8
-    ensures { λ r. ⌜ r ≡ solvedNumber s ⌝ }
-{
-    match s {
-        Solved::Refused(k) => k,
-        Solved::Ran(_) => 0,
-    }
-}
-
-fn told(o: Outcome) -> Places
-    ensures { λ r. ⌜ r ≡ toldOf o ⌝ }
-{
-    match o {
-        Outcome::Zero { count: k } => Places {
-            how: 1,
-            count: k,
-            norm: 0.0,
-            denominator: 0.0,
-        },
-        Outcome::Near {
-            count: k,
-            residual: a,
-        } => Places {
-            how: 2,
-            count: k,
-            norm: a,
-            denominator: 0.0,
-        },
-        Outcome::Converged {
-            count: k,
-            residual: a,
-        } => Places {
-            how: 3,
-            count: k,
-            norm: a,
-            denominator: 0.0,
-        },
-        Outcome::Curvature {
-            count: k,
-            residual: a,
-            denominator: d,
-        } => Places {
-            how: 4,
-            count: k,
-            norm: a,
-            denominator: d,
-        },
-        Outcome::Limit {
-            count: k,
-            residual: a,
-        } => Places {
-            how: 5,
-            count: k,
-            norm: a,
-            denominator: 0.0,
-        },
-    }
-}
-
-fn after(s: Solved, how: u32, count: usize, norm: f32, denominator: f32) -> Places
-    ensures { λ r. ⌜ r ≡ placesOf s (places how count norm denominator) ⌝ }
-{
-    match s {
-        Solved::Refused(_) => Places {
-            how: how,
-            count: count,
-            norm: norm,
-            denominator: denominator,
-        },
-        Solved::Ran(o) => told(o),
-    }
-}
+ghost use Rattle.numbers.specs.Numbers.{Numbered, Told};
+ghost use Rattle.numbers.specs.Told.{updatedNumber, solvedNumber, places, placesOf};
 
 #[no_mangle]
 pub extern "C" fn bracket_update_preconditioner(
@@ -140,7 +50,7 @@ pub extern "C" fn bracket_conjugate_gradient(
     norm: &mut f32,
     denominator: &mut f32,
 ) -> u8
-    ensures { λ r. ⌜ Told (solving.given n (now («row_offsets» .entry)) (now (cols .entry)) (now (diagonal .entry)) (now (blocks .entry)) (now (preconditioner .entry)) (now (b .entry)) tolerance «max_iterations» (now (x .entry)) (now (residual .entry)) (now (direction .entry)) (now («a_direction» .entry)) (now (z .entry))) r (λ a. solving.left a (now (x .exit)) (now (residual .exit)) (now (direction .exit)) (now («a_direction» .exit)) (now (z .exit))) (places (now (how .entry)) (now (count .entry)) (now (norm .entry)) (now (denominator .entry))) (places (now (how .exit)) (now (count .exit)) (now (norm .exit)) (now (denominator .exit))) ⌝ }
+    ensures { λ r. ⌜ Told solving.door (λ o. o .answer) solvedNumber placesOf (solving.given n (now («row_offsets» .entry)) (now (cols .entry)) (now (diagonal .entry)) (now (blocks .entry)) (now (preconditioner .entry)) (now (b .entry)) tolerance «max_iterations» (now (x .entry)) (now (residual .entry)) (now (direction .entry)) (now («a_direction» .entry)) (now (z .entry))) r (λ a. solving.left a (now (x .exit)) (now (residual .exit)) (now (direction .exit)) (now («a_direction» .exit)) (now (z .exit))) (places (now (how .entry)) (now (count .entry)) (now (norm .entry)) (now (denominator .entry))) (places (now (how .exit)) (now (count .exit)) (now (norm .exit)) (now (denominator .exit))) ⌝ }
 {
     let s = gradient::solve(
         n,

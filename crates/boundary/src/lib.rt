@@ -48,7 +48,7 @@ pub extern "C" fn bracket_times(
     if out.len() < 2 {
         return 3;
     }
-    plane::inner::set_vector(out, 0, plane::times([[c0x, c0y], [c1x, c1y]], [vx, vy]));
+    vectors::inner::set_vector(out, 0, plane::times([[c0x, c0y], [c1x, c1y]], [vx, vy]));
     0
 }
 
@@ -60,6 +60,6 @@ pub extern "C" fn bracket_inverse(c0x: f32, c0y: f32, c1x: f32, c1y: f32, out: &
     if out.len() < 4 {
         return 3;
     }
-    plane::inner::set_block(out, 0, plane::inverse([[c0x, c0y], [c1x, c1y]]));
+    vectors::inner::set_block(out, 0, plane::inverse([[c0x, c0y], [c1x, c1y]]));
     0
 }

@@ -1,7 +1,8 @@
 // The block matrix's calls. Each answers the refusal's number, or 0; the lists are left as the call's own promise says.
-use pattern::Built;
-use pattern::Found;
-use pattern::Ran;
+use numbers::built::built_number;
+use numbers::built::found_number;
+use numbers::built::found_slot;
+use numbers::built::ran_number;
 ghost use mathlib.Core.Path.{_≡_};
 ghost use Rattle.law.specs.Promise.{outcome};
 ghost use Rattle.pattern.specs.Indexing as indexing;
@@ -10,43 +11,7 @@ ghost use Rattle.pattern.specs.Multiplying as multiplying;
 ghost use Rattle.pattern.specs.Pinning as pinning;
 ghost use Rattle.pattern.specs.Building as building;
 ghost use Rattle.pattern.specs.FromPairs as frompairs;
-ghost use Rattle.boundary.specs.Numbers.{builtNumber, ranNumber, foundNumber, foundSlot, Numbered};
-
-fn built_number(b: Built) -> u8
-    ensures { λ r. ⌜ r ≡ builtNumber b ⌝ }
-{
-    match b {
-        Built::Refused(k) => k,
-        Built::Done(_) => 0,
-    }
-}
-
-fn ran_number(a: Ran) -> u8
-    ensures { λ r. ⌜ r ≡ ranNumber a ⌝ }
-{
-    match a {
-        Ran::Refused(k) => k,
-        Ran::Done => 0,
-    }
-}
-
-fn found_number(f: Found) -> u8
-    ensures { λ r. ⌜ r ≡ foundNumber f ⌝ }
-{
-    match f {
-        Found::Refused(k) => k,
-        Found::Slot(_) => 0,
-    }
-}
-
-fn found_slot(f: Found, old: u32) -> u32
-    ensures { λ r. ⌜ r ≡ foundSlot f old ⌝ }
-{
-    match f {
-        Found::Refused(_) => old,
-        Found::Slot(s) => s,
-    }
-}
+ghost use Rattle.numbers.specs.Numbers.{builtNumber, ranNumber, foundNumber, foundSlot, Numbered};
 
 #[no_mangle]
 pub extern "C" fn bracket_from_pairs(

@@ -1,19 +1,9 @@
 // Planning. Answers the refusal's number, or 0; the envelope's length is then the last row start. The lists are left as the call's own promise says.
-use envelope::Planned;
-ghost use mathlib.Core.Path.{_≡_};
-ghost use Rattle.envelope.specs.Plan.{four};
-ghost use Rattle.envelope.specs.Parts.{five};
+use numbers::planned::planned_number;
+ghost use Rattle.plans.specs.Plan.{four};
+ghost use Rattle.plans.specs.Parts.{five};
 ghost use Rattle.envelope.specs.Planning.{given, left, door};
-ghost use Rattle.boundary.specs.Numbers.{plannedNumber, Numbered};
-
-fn planned_number(p: Planned) -> u8
-    ensures { λ r. ⌜ r ≡ plannedNumber p ⌝ }
-{
-    match p {
-        Planned::Refused(k) => k,
-        Planned::Done(_) => 0,
-    }
-}
+ghost use Rattle.numbers.specs.Numbers.{plannedNumber, Numbered};
 
 #[no_mangle]
 pub extern "C" fn bracket_plan(

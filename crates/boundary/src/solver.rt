@@ -1,60 +1,13 @@
 // The direct solver. Each call answers the refusal's number, or 0; the lists are left as the call's own promise says.
-use direct::Factored;
-use direct::Solved;
-ghost use mathlib.Core.Path.{_≡_};
+use numbers::factored::factored_how;
+use numbers::factored::factored_number;
+use numbers::factored::failed_pivot;
+use numbers::factored::failed_row;
+use numbers::factored::solved_number;
 ghost use Rattle.direct.specs.Factorizing as factorizing;
 ghost use Rattle.direct.specs.Solving as solving;
-ghost use Rattle.boundary.specs.Numbers.{Numbered};
-ghost use Rattle.boundary.specs.Direct.{factoredNumber, solvedNumber, howOf, rowOf, pivotOf, places, Told};
-
-fn factored_number(f: Factored) -> u8
-    ensures { λ r. ⌜ r ≡ factoredNumber f ⌝ }
-{
-    match f {
-        Factored::Refused(k) => k,
-        Factored::Done => 0,
-        Factored::Failed { row: _, pivot: _ } => 0,
-    }
-}
-
-fn factored_how(f: Factored, old: u32) -> u32
-    ensures { λ r. ⌜ r ≡ howOf f old ⌝ }
-{
-    match f {
-        Factored::Refused(_) => old,
-        Factored::Done => 0,
-        Factored::Failed { row: _, pivot: _ } => 1,
-    }
-}
-
-fn failed_row(f: Factored, old: usize) -> usize
-    ensures { λ r. ⌜ r ≡ rowOf f old ⌝ }
-{
-    match f {
-        Factored::Refused(_) => old,
-        Factored::Done => old,
-        Factored::Failed { row, pivot: _ } => row,
-    }
-}
-
-fn failed_pivot(f: Factored, old: f32) -> f32
-    ensures { λ r. ⌜ r ≡ pivotOf f old ⌝ }
-{
-    match f {
-        Factored::Refused(_) => old,
-        Factored::Done => old,
-        Factored::Failed { row: _, pivot } => pivot,
-    }
-}
-
-fn solved_number(s: Solved) -> u8
-    ensures { λ r. ⌜ r ≡ solvedNumber s ⌝ }
-{
-    match s {
-        Solved::Refused(k) => k,
-        Solved::Done => 0,
-    }
-}
+ghost use Rattle.numbers.specs.Numbers.{Numbered, Told};
+ghost use Rattle.numbers.specs.Direct.{factoredNumber, solvedNumber, places, placesOf};
 
 // Accepted, how is 0 for a whole factor and 1 for a failure; row and pivot are written by a failure alone.
 #[no_mangle]
@@ -73,7 +26,7 @@ pub extern "C" fn bracket_factorize(
     row: &mut usize,
     pivot: &mut f32,
 ) -> u8
-    ensures { λ r. ⌜ Told (factorizing.given n (now («row_offsets» .entry)) (now (cols .entry)) (now (diagonal .entry)) (now (blocks .entry)) (now (perm .entry)) (now («inv_perm» .entry)) (now (first .entry)) (now («row_start» .entry)) (now (values .entry))) r (now (values .exit)) (places (now (how .entry)) (now (row .entry)) (now (pivot .entry))) (places (now (how .exit)) (now (row .exit)) (now (pivot .exit))) ⌝ }
+    ensures { λ r. ⌜ Told factorizing.door (λ o. o .answer) factoredNumber placesOf (factorizing.given n (now («row_offsets» .entry)) (now (cols .entry)) (now (diagonal .entry)) (now (blocks .entry)) (now (perm .entry)) (now («inv_perm» .entry)) (now (first .entry)) (now («row_start» .entry)) (now (values .entry))) r (λ a. factorizing.left a (now (values .exit))) (places (now (how .entry)) (now (row .entry)) (now (pivot .entry))) (places (now (how .exit)) (now (row .exit)) (now (pivot .exit))) ⌝ }
 {
     let f = direct::factorize(
         n,

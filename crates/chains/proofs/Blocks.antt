@@ -9,11 +9,11 @@ use lib.Dec.{eqb}
 use borrow.Author.Tests.{eqb-true, eqb-false}
 use Rattle.shape.specs.Formed.{Stored}
 use Rattle.shape.specs.Rows.{at, Pattern}
-use Rattle.order.specs.Order.{among, neighbours, fresh, startAfter}
-use Rattle.order.specs.Tight.{Tight, tight-of, stored-part, stored-whole}
-use Rattle.order.proofs.At.{In}
-use Rattle.order.proofs.Pigeon.{among-true}
-use Rattle.order.proofs.Rows as rows
+use Rattle.ordering.specs.Order.{among, neighbours, fresh, startAfter}
+use Rattle.ordering.specs.Tight.{Tight, tight-of, stored-part, stored-whole}
+use Rattle.ordering.proofs.At.{In}
+use Rattle.ordering.proofs.Pigeon.{among-true}
+use Rattle.ordering.proofs.Rows as rows
 use Rattle.chains.proofs.Place.{Given}
 
 module _ (n : ℕ) (starts cols diagonal : List ℕ) (p : Pattern n starts cols diagonal) where

@@ -13,10 +13,10 @@ use borrow.Author.Tests.{eqb-true, eqb-false, ltb-true, ltb-false}
 use Rattle.law.specs.Truth.{below-or}
 use Rattle.shape.specs.Formed.{Stored}
 use Rattle.shape.specs.Rows.{at, Pattern}
-use Rattle.order.specs.Order.{neighbours}
-use Rattle.order.specs.Envelope.{placeOf, lesser, leftmost, firstBlock, firstCol, rowStarts}
-use Rattle.order.proofs.At.{At, first, later, at-nil, at-lt, at-getD, In, getD-at as At-getD}
-use Rattle.order.proofs.Pigeon.{in-cons, in-head, in-tail}
+use Rattle.ordering.specs.Order.{neighbours}
+use Rattle.ordering.specs.Envelope.{placeOf, lesser, leftmost, firstBlock, firstCol, rowStarts}
+use Rattle.ordering.proofs.At.{At, first, later, at-nil, at-lt, at-getD, In, getD-at as At-getD}
+use Rattle.ordering.proofs.Pigeon.{in-cons, in-head, in-tail}
 use Rattle.chains.specs.Demand.{Ordered, Enveloped}
 use Rattle.chains.proofs.Blocks.{own-block, nb-stored, stored-nb, reaches}
 

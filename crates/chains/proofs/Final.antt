@@ -7,9 +7,9 @@ use mathlib.Core.List.{List, reverse}
 use lib.ListN.{length, getD, length-map, length-reverse}
 use Rattle.law.specs.Truth.{below-or}
 use Rattle.shape.specs.Rows.{at}
-use Rattle.order.specs.Order.{placing}
-use Rattle.order.proofs.At.{At, at-lt, at-of, at-getD, at-fun, at-map, at-unmap, at-reverse}
-use Rattle.order.proofs.Pigeon.{Distinct, few, all}
+use Rattle.ordering.specs.Order.{placing}
+use Rattle.ordering.proofs.At.{At, at-lt, at-of, at-getD, at-fun, at-map, at-unmap, at-reverse}
+use Rattle.ordering.proofs.Pigeon.{Distinct, few, all}
 use Rattle.chains.specs.Demand.{Chain, stay, link, Joined, Fewest, Last, Ordered}
 use Rattle.chains.proofs.Place.{Mark, whos, Inv, Given, chain-snoc, whos-distinct, whos-below, walk}
 

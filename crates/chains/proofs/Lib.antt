@@ -4,3 +4,9 @@ mod Blocks
 mod Envelope
 pub mod Whole
 pub mod Carried
+pub mod Keys
+pub mod Sorted
+mod Chosen
+mod Levels
+mod Distances
+pub mod Picks

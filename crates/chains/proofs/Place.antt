@@ -11,9 +11,9 @@ use lib.ListN.{length, getD, length-append, length-map}
 use lib.Dec.{ltb}
 use borrow.Author.Tests.{ltb-true, ltb-false}
 use Rattle.law.specs.Truth.{below-or}
-use Rattle.order.specs.Order.{placing, filled, visited}
-use Rattle.order.proofs.Pigeon.{Distinct, distinct-one}
-use Rattle.order.proofs.At.{At, first, at-nil, at-lt, at-of, at-getD, at-fun, at-left, at-right, at-cases, In, at-map, at-unmap, one-at}
+use Rattle.ordering.specs.Order.{placing, filled, visited}
+use Rattle.ordering.proofs.Pigeon.{Distinct, distinct-one}
+use Rattle.ordering.proofs.At.{At, first, at-nil, at-lt, at-of, at-getD, at-fun, at-left, at-right, at-cases, In, at-map, at-unmap, one-at}
 use Rattle.chains.specs.Demand.{Chain, stay, link}
 
 pub record Mark : Type 0 where

@@ -5,7 +5,7 @@ use mathlib.Core.List.{List}
 use lib.ListN.{length, take}
 use Rattle.shape.specs.Formed.{Stored}
 use Rattle.shape.specs.Rows.{at, Pattern}
-use Rattle.order.specs.Order.{neighbours, startAfter, fresh, orderOf}
+use Rattle.ordering.specs.Order.{neighbours, startAfter, fresh, orderOf}
 use Rattle.chains.specs.Demand.{Ordered, Demand3, orderIn, firstIn, startsIn}
 use Rattle.chains.proofs.Final.{ordered, ordered-long}
 use Rattle.chains.proofs.Blocks.{given}

@@ -6,8 +6,8 @@ use mathlib.Core.Path.{_≡_}
 use mathlib.Core.List.{List}
 use lib.ListN.{take}
 use Rattle.shape.specs.Rows.{at}
-use Rattle.order.specs.Order.{orderOf}
-use Rattle.order.specs.Envelope.{firstCol, rowStarts}
+use Rattle.ordering.specs.Order.{orderOf}
+use Rattle.ordering.specs.Envelope.{firstCol, rowStarts}
 
 -- ---- chains. S a b says that block (a,b) is stored
 

@@ -1,1 +1,3 @@
 pub mod Demand
+pub mod Keys
+pub mod Picks

@@ -7,15 +7,15 @@ use lib.ListN.{length, length-append, List·getD-append}
 use Rattle.law.specs.Gather.{length-table, table-at}
 use Rattle.shape.specs.Rows.{at, Pattern}
 use Rattle.shape.specs.Given.{pattern}
-use Rattle.order.specs.Envelope.{placeOf}
+use Rattle.ordering.specs.Envelope.{placeOf}
 use Rattle.chains.specs.Demand.{Demand3, orderIn, firstIn}
 use Rattle.chains.proofs.Whole.{order-long, demand-3}
 use Rattle.chains.proofs.Carried.{demand-carried}
 use Rattle.fits.specs.Fits.{fitsOk, fits-of}
 use Rattle.fits.specs.Lists.{Laid}
 use Rattle.fits.specs.Same.{Same, fits-same}
-use Rattle.envelope.specs.Starts.{startAt, starts-are}
-use Rattle.envelope.specs.Plan.{Plan, planBy, planOf, lengthOf}
+use Rattle.layout.specs.Starts.{startAt, starts-are}
+use Rattle.plans.specs.Plan.{Plan, planBy, planOf, lengthOf}
 use Rattle.envelope.specs.Facts.{planIn}
 use Rattle.envelope.specs.PlanFits.{plan-fits}
 use Rattle.envelope.specs.Planning.{In, laidOver, lengthFor, work}

@@ -18,11 +18,11 @@ use Rattle.build.specs.Build.{builtOf}
 use Rattle.pattern.specs.Building as building
 use Rattle.pattern.specs.Building.{listsRoom, refusals as buildRefusals, work as buildWork}
 use Rattle.pattern.specs.declared.Built.the-variants as built
-use Rattle.order.specs.Order.{neighbours, reach, settle, chooseStart, fresh, placing, orderOf}
-use Rattle.order.specs.Envelope.{firstBlock, firstCol, rowStarts}
+use Rattle.ordering.specs.Order.{neighbours, reach, settle, chooseStart, fresh, placing, orderOf}
+use Rattle.ordering.specs.Envelope.{firstBlock, firstCol, rowStarts}
 use Rattle.chains.specs.Demand.{Demand3}
-use Rattle.envelope.specs.Plan.{Plan, four, planBy, planOf, lengthOf}
-use Rattle.envelope.specs.Parts.{Work, five}
+use Rattle.plans.specs.Plan.{Plan, four, planBy, planOf, lengthOf}
+use Rattle.plans.specs.Parts.{Work, five}
 use Rattle.envelope.specs.Planning.{In, Out, left, planRoom, early, refusals, lengthFor, laidOver, cleared, work, door}
 use Rattle.envelope.specs.declared.Planned.the-variants.{Done}
 use Rattle.demand.specs.Built.{handed}

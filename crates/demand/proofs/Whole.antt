@@ -8,8 +8,8 @@ use Rattle.law.specs.Room.{enough}
 use Rattle.law.specs.Promise.{Promise}
 use Rattle.pattern.specs.Building as building
 use Rattle.chains.proofs.Carried.{demand-carried}
-use Rattle.envelope.specs.Plan.{Plan}
-use Rattle.envelope.specs.Parts.{Work}
+use Rattle.plans.specs.Plan.{Plan}
+use Rattle.plans.specs.Parts.{Work}
 use Rattle.envelope.specs.Planning.{In, Out, planRoom, lengthFor, door}
 use Rattle.demand.specs.Door.{NoParticleDropsOut, AnsweredExactly}
 use Rattle.demand.specs.Built.{handed, OfPairs, OfPatternFromPairs, OfFromPairs}

@@ -14,8 +14,8 @@ use Rattle.pattern.specs.Building as building
 use Rattle.pattern.specs.FromPairs as frompairs
 use Rattle.pattern.specs.declared.Built.the-variants as built
 use Rattle.chains.specs.Demand.{Demand3}
-use Rattle.envelope.specs.Plan.{Plan}
-use Rattle.envelope.specs.Parts.{Work}
+use Rattle.plans.specs.Plan.{Plan}
+use Rattle.plans.specs.Parts.{Work}
 use Rattle.envelope.specs.Planning.{In, Out, given, planRoom, lengthFor, door}
 use Rattle.envelope.specs.declared.Planned.the-variants.{Refused, Done}
 use Rattle.demand.specs.Door.{Blocks, Leaves}

@@ -12,9 +12,9 @@ use Rattle.law.specs.Promise.{outcome}
 use Rattle.law.specs.Refusal.{verdict}
 use Rattle.shape.specs.Made.{rowOf, colsOf, startOf, startsOf}
 use Rattle.build.specs.Pairs.{joined, storedBy}
-use Rattle.order.specs.Order.{neighbours, reach, settle, chooseStart, fresh, placing, orderOf}
-use Rattle.order.specs.Envelope.{firstBlock, firstCol, rowStarts}
-use Rattle.envelope.specs.Plan.{planBy, planOf, lengthOf}
+use Rattle.ordering.specs.Order.{neighbours, reach, settle, chooseStart, fresh, placing, orderOf}
+use Rattle.ordering.specs.Envelope.{firstBlock, firstCol, rowStarts}
+use Rattle.plans.specs.Plan.{planBy, planOf, lengthOf}
 use Rattle.text.specs.Text.{isGap, isDigit, allowed, before, pieces, filled, numbers, small, counted, described}
 use Rattle.print.specs.Digits.{digits, digitsIn}
 use Rattle.print.specs.Lines.{item, listed, orderLine, numberLine, planText, refusedText}

@@ -10,7 +10,7 @@ use Rattle.law.specs.Refusal.{Test, unless, Rising}
 use Rattle.law.specs.Promise.{Door, outcome}
 use Rattle.shape.specs.Made.{startsOf, colsOf}
 use Rattle.build.specs.Pairs.{pairOkAt, storedBy}
-use Rattle.envelope.specs.Plan.{planOf, lengthOf}
+use Rattle.plans.specs.Plan.{planOf, lengthOf}
 use Rattle.text.specs.Text.{described, particleCount, pairCount, pairNumbers}
 use Rattle.print.specs.Lines.{planText, refusedText}
 

@@ -18,7 +18,7 @@ use Rattle.shape.specs.Made.{startOf, startsOf, slotsOf, begins, length-cols}
 use Rattle.shape.specs.Rows.{at, Pattern}
 use Rattle.build.specs.Build.{roomOf, workOf, builtOf}
 use Rattle.build.specs.Pairs.{pairOkAt, storedBy, built-formed}
-use Rattle.envelope.specs.Plan.{lengthOf}
+use Rattle.plans.specs.Plan.{lengthOf}
 use Rattle.pattern.specs.Building as building
 use Rattle.pattern.specs.declared.Built.the-variants.{Done}
 use Rattle.print.specs.Lines.{refusedText}
@@ -97,11 +97,11 @@ module _ (n count : ℕ) (pairs : List ℕ) (g : Counted n count pairs) where
           formed = rw ends (rw (starts-are, cols-are, slots-are) (built-formed pairs count n (drop (n + 1) starts) (rest cols) (drop n diagonal)));
         }
 
-    starts-part : take (n + 1) s ≡ startsBy n count pairs
+    pub starts-part : take (n + 1) s ≡ startsBy n count pairs
     unfolding startsOf
     starts-part = rw starts-are (take-at (startsBy n count pairs) (drop (n + 1) starts) (n + 1) (length-table (startOf n (storedBy pairs count)) (n + 1)))
 
-    cols-part : take (at s n) c ≡ colsBy n count pairs
+    pub cols-part : take (at s n) c ≡ colsBy n count pairs
     cols-part = rw (ends, cols-are) (take-at (colsBy n count pairs) (rest cols) (startOf n (storedBy pairs count) n) (length-cols n (storedBy pairs count)))
 
     pub drawn-planned : (a b : List ℕ) (r : ℕ) → every (pairOkAt n pairs) 0 count ≡ true → Written (plannedText n (take (n + 1) s) (take (at s n) c)) a b r → Written (drawnText n count pairs) a b r

@@ -11,9 +11,9 @@ use borrow.Author.Tests.{le-leb, lt-leb}
 use Rattle.law.specs.Limit.{particles, envelope}
 use Rattle.law.specs.Put.{Written}
 use Rattle.shape.specs.Rows.{at, Pattern}
-use Rattle.envelope.specs.Listed.{order-lists}
-use Rattle.envelope.specs.Plan.{Plan, four, planBy, planOf, lengthOf}
-use Rattle.envelope.specs.Parts.{five, Made, made, settled}
+use Rattle.layout.specs.Listed.{order-lists}
+use Rattle.plans.specs.Plan.{Plan, four, planBy, planOf, lengthOf}
+use Rattle.plans.specs.Parts.{five, Made, made, settled}
 use Rattle.envelope.specs.Planning.{In, startsOf, colsOf, lengthFor, laidOver, wholeOf}
 use Rattle.print.specs.Lines.{planText, refusedText, planRoom}
 

@@ -10,7 +10,7 @@ use Rattle.law.specs.Refusal.{verdict}
 use Rattle.law.specs.Promise.{outcome}
 use Rattle.root.specs.Sqrt.{sqrtOf}
 use Rattle.plane.specs.Plane.{zero32, one32}
-use Rattle.plane.specs.Run.{dotRun}
+use Rattle.stretch.specs.Run.{dotRun}
 use Rattle.shape.specs.Formed.{slotOk as columnOk, homeOk, rowOk as columnsOk, stored, mirrorsOk, startsOk as offsetsOk, wellFormed}
 use Rattle.shape.specs.Given.{patternRoom, formed}
 use Rattle.fits.specs.Fits.{backOk, undoOk, twinsOk, firstsOk, growOk, startsOk, plannedOk, slotOk, rowOk, insideOk, fitsOk}

@@ -51,7 +51,7 @@ pub fn factorizing(
     if law::PARTICLES < n {
         return 1;
     }
-    if !shape::given::pattern_room(n, row_offsets, cols, diagonal) {
+    if !checked::given::pattern_room(n, row_offsets, cols, diagonal) {
         return 3;
     }
     if !fits::given::plan_room(n, perm, inv_perm, first, row_start) {
@@ -60,7 +60,7 @@ pub fn factorizing(
     if !factor_room(n, row_offsets, blocks, row_start, values) {
         return 3;
     }
-    if !shape::given::pattern_formed(n, row_offsets, cols, diagonal) {
+    if !checked::given::pattern_formed(n, row_offsets, cols, diagonal) {
         return 5;
     }
     if !fits::inside::fits(n, row_offsets, cols, perm, inv_perm, first, row_start) {

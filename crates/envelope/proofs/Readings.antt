@@ -4,9 +4,9 @@ use mathlib.Core.Path.{_≡_, refl}
 use mathlib.Core.List.{List, [], _∷_}
 use Rattle.law.specs.Loop.{fold, over}
 use Rattle.law.specs.Gather.{gather}
-use Rattle.order.specs.Order.{neighbours, reach, settle, chooseStart, fresh, placing, orderOf}
-use Rattle.order.specs.Envelope.{firstBlock, firstCol, rowStarts}
-use Rattle.envelope.specs.Plan.{four, planBy, planOf, lengthOf}
+use Rattle.ordering.specs.Order.{neighbours, reach, settle, chooseStart, fresh, placing, orderOf}
+use Rattle.ordering.specs.Envelope.{firstBlock, firstCol, rowStarts}
+use Rattle.plans.specs.Plan.{four, planBy, planOf, lengthOf}
 
 none : lengthOf 0 (0 ∷ []) [] ≡ 0
 unfolding lengthOf planOf planBy gather over fold orderOf placing fresh chooseStart settle reach neighbours rowStarts firstCol firstBlock

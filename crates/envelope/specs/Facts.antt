@@ -8,13 +8,13 @@ use lib.ListN.{take}
 use Rattle.law.specs.Gather.{table-at}
 use Rattle.shape.specs.Formed.{Stored}
 use Rattle.shape.specs.Rows.{at, Pattern}
-use Rattle.order.specs.Envelope.{placeOf, firstBlock, firstCol}
+use Rattle.ordering.specs.Envelope.{placeOf, firstBlock, firstCol}
 use Rattle.chains.specs.Demand.{orderIn}
 use Rattle.chains.proofs.Whole.{demand-3}
-use Rattle.envelope.specs.Listed.{Listed, order-lists, place-below, at-place, place-at}
-use Rattle.envelope.specs.Leftmost.{first-most, first-even, first-odd}
-use Rattle.envelope.specs.Starts.{startAt, start-none, start-more, starts-are}
-use Rattle.envelope.specs.Plan.{Plan, planBy, planOf}
+use Rattle.layout.specs.Listed.{Listed, order-lists, place-below, at-place, place-at}
+use Rattle.layout.specs.Leftmost.{first-most, first-even, first-odd}
+use Rattle.layout.specs.Starts.{startAt, start-none, start-more, starts-are}
+use Rattle.plans.specs.Plan.{Plan, planBy, planOf}
 
 -- the plan of the pattern that lists hold
 abbrev pub planIn : ℕ → List ℕ → List ℕ → Plan

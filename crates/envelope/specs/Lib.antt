@@ -1,9 +1,3 @@
-pub mod Listed
-pub mod Leftmost
-pub mod Starts
-pub mod Plan
 pub mod Facts
-pub mod Laid
-pub mod Parts
 pub mod Planning
 pub mod PlanFits

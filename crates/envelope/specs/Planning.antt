@@ -14,10 +14,10 @@ use Rattle.law.specs.Refusal.{Test, unless, Rising, verdict, all-pass, stops, g
 use Rattle.law.specs.Promise.{Door, Promise, refuses, accepts}
 use Rattle.shape.specs.Rows.{at, Pattern}
 use Rattle.shape.specs.Given.{patternRoom, formed, pattern}
-use Rattle.order.specs.Tight.{tight-of}
-use Rattle.envelope.specs.Listed.{order-lists}
-use Rattle.envelope.specs.Plan.{Plan, four, planOf, lengthOf}
-use Rattle.envelope.specs.Parts.{Work, five, Ground, Room, Desk, Made, made, zeros, settled, madeOf}
+use Rattle.ordering.specs.Tight.{tight-of}
+use Rattle.layout.specs.Listed.{order-lists}
+use Rattle.plans.specs.Plan.{Plan, four, planOf, lengthOf}
+use Rattle.plans.specs.Parts.{Work, five, Ground, Room, Desk, Made, made, zeros, settled, madeOf}
 use Rattle.envelope.specs.declared.Planned.{Planned}
 use Rattle.envelope.specs.declared.Planned.the-variants.{Refused, Done}
 

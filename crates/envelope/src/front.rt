@@ -1,8 +1,8 @@
 // The parts of the lent lists that planning needs are lent on.
-use crate::inner;
+use plans::inner;
 ghost use mathlib.Core.Path.{_≡_};
-ghost use Rattle.envelope.specs.Plan.{four};
-ghost use Rattle.envelope.specs.Parts.{five, made};
+ghost use Rattle.plans.specs.Plan.{four};
+ghost use Rattle.plans.specs.Parts.{five, made};
 ghost use Rattle.envelope.specs.Planning.{given, Ready, wholeOf};
 
 pub fn plan(

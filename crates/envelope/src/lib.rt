@@ -2,15 +2,12 @@
 // envelope starts. THE DOOR `plan` tests all that it is handed, refuses by number or does the work.
 ghost use mathlib.Core.Path.{_≡_};
 ghost use Rattle.law.specs.Promise.{Promise};
-ghost use Rattle.envelope.specs.Plan.{four};
-ghost use Rattle.envelope.specs.Parts.{five};
+ghost use Rattle.plans.specs.Plan.{four};
+ghost use Rattle.plans.specs.Parts.{five};
 ghost use Rattle.envelope.specs.Planning.{given, left, answered, door};
 
 pub mod front;
-pub mod inner;
 mod refuse;
-mod rows;
-mod tables;
 
 pub enum Planned {
     Refused(u8),

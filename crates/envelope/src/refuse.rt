@@ -5,8 +5,8 @@ ghost use Prim.Native.Nat.{_≤_};
 ghost use Rattle.law.specs.Limit.{particles};
 ghost use Rattle.law.specs.Room.{enough};
 ghost use Rattle.law.specs.Refusal.{verdict};
-ghost use Rattle.envelope.specs.Plan.{four};
-ghost use Rattle.envelope.specs.Parts.{five};
+ghost use Rattle.plans.specs.Plan.{four};
+ghost use Rattle.plans.specs.Parts.{five};
 ghost use Rattle.envelope.specs.Planning.{given, planRoom, early};
 
 // Whether the plan's lists and the work lists have room.
@@ -56,7 +56,7 @@ pub fn planning(
     if law::PARTICLES < n {
         return 1;
     }
-    if !shape::given::pattern_room(n, row_offsets, cols, diagonal) {
+    if !checked::given::pattern_room(n, row_offsets, cols, diagonal) {
         return 3;
     }
     if !plan_room(
@@ -73,7 +73,7 @@ pub fn planning(
     ) {
         return 3;
     }
-    if !shape::given::pattern_formed(n, row_offsets, cols, diagonal) {
+    if !checked::given::pattern_formed(n, row_offsets, cols, diagonal) {
         return 5;
     }
     0

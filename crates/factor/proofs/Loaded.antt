@@ -17,9 +17,9 @@ use Rattle.shape.specs.Formed.{InRow, WellFormed, stored, stored-is, stored-of}
 use Rattle.shape.specs.Rows.{row-end, one-row}
 use Rattle.shape.specs.Index.{indexOf, index-is}
 use Rattle.fits.specs.Fits.{Fits}
-use Rattle.fits.specs.Cells.{Skyline, skyline-of, Cell, place, held, block-cell}
+use Rattle.fits.specs.Cells.{Skyline, skyline-of, Cell, place, held, block-cell, look}
 use Rattle.factor.specs.Load.{besideOf, cornerOf, slotInto, slotsInto, rowInto, loadOf, matrixOf}
-use Rattle.factor.specs.Entry.{Matrix, Cholesky, look, permuted}
+use Rattle.factor.specs.Entry.{Matrix, Cholesky, permuted}
 use Rattle.factor.proofs.Look.{look-same, look-other}
 use Rattle.factor.proofs.Meaning.{cholesky, cholesky-same}
 

@@ -6,8 +6,7 @@ use native.Mathlib.Omega.{arith}
 use lib.ListN.{length, set}
 use lib.Seq.{getD-set-same, getD-set-other}
 use lib.Ieee.{Float, nan}
-use Rattle.fits.specs.Cells.{Skyline, Cell, place, held, one-cell}
-use Rattle.factor.specs.Entry.{look}
+use Rattle.fits.specs.Cells.{Skyline, Cell, place, look, held, one-cell}
 
 module _ {m : ℕ} {f s : ℕ → ℕ} (w : Skyline m f s) (v : List Float) (long : length v ≡ s m) {i j : ℕ} (c : Cell m f i j) (x : Float) where
   pub look-same : look f s (set v (place f s i j) x) i j ≡ x

@@ -11,13 +11,13 @@ use lib.Ieee.{Float, nan, lt}
 use Rattle.law.specs.Loop.{over, over-same, over-shift, over-holds}
 use Rattle.law.specs.Truth.{below-or}
 use Rattle.plane.specs.Plane.{_⊖_, _⊗_, zero32}
-use Rattle.plane.specs.Run.{runStep, dotRun}
+use Rattle.stretch.specs.Run.{runStep, dotRun}
 use Rattle.root.specs.Sqrt.{sqrtOf}
-use Rattle.fits.specs.Cells.{Skyline, Cell, place, corner}
+use Rattle.fits.specs.Cells.{Skyline, Cell, place, corner, look}
 use Rattle.factor.specs.declared.Factored.{Factored}
 use Rattle.factor.specs.declared.Factored.the-variants.{Done, Failed}
 use Rattle.factor.specs.Factor.{later, later-left, later-right, reducedOf, entryOf, entryStep, leftOf, squareStep, pivotOf, State, state, closeOf, rowOf, rowStep, factorOf}
-use Rattle.factor.specs.Entry.{Matrix, productStep, entry, pivotStep, pivot, Finished, Ended, Cholesky, look}
+use Rattle.factor.specs.Entry.{Matrix, productStep, entry, pivotStep, pivot, Finished, Ended, Cholesky}
 use Rattle.factor.proofs.Look.{look-same, look-other}
 
 -- ---- what an entry and a pivot are worked out of

@@ -3,7 +3,7 @@ use mathlib.Core.Path.{_≡_, refl}
 use mathlib.Core.List.{List, [], _∷_}
 use lib.Ieee.{Float, nan, binary32, ofBits, add, sub, mul, div, lt}
 use Rattle.law.specs.Loop.{over, fold}
-use Rattle.plane.specs.Run.{dotRun}
+use Rattle.stretch.specs.Run.{dotRun}
 use Rattle.root.specs.Sqrt.{sqrtOf}
 use Rattle.shape.specs.Rows.{at}
 use Rattle.factor.specs.declared.Factored.the-variants.{Done, Failed}

@@ -13,7 +13,6 @@ use Rattle.plane.specs.Lent.{blockAt}
 use Rattle.root.specs.Sqrt.{sqrtOf}
 use Rattle.shape.specs.Formed.{stored}
 use Rattle.shape.specs.Index.{indexOf}
-use Rattle.fits.specs.Cells.{place}
 use Rattle.factor.specs.declared.Factored.{Factored}
 use Rattle.factor.specs.declared.Factored.the-variants.{Done, Failed}
 use Rattle.factor.specs.Factor.{later}
@@ -62,11 +61,7 @@ abbrev pub Cholesky : ℕ → (ℕ → ℕ) → Matrix → Matrix → Factored �
 Cholesky m f a l Done = Finished m f a l
 Cholesky m f a l (Failed r d) = Ended m f a l r d
 
--- ---- the matrices that the code works on
-
--- what a list of values holds under a plan's first columns and row starts
-abbrev pub look : (ℕ → ℕ) → (ℕ → ℕ) → List Float → Matrix
-look f s v = λ i j. getD v (place f s i j) nan
+-- ---- the matrix that the code works on
 
 -- the permuted matrix: rows 2i and 2i + 1 are the particle's at position i, whose number is o i. In the block of two particles the column is counted first. Where the pattern, whose row
 -- starts are t and whose columns are c, stores no block, the entries are +0.0

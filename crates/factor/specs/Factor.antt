@@ -13,7 +13,7 @@ use lib.Ieee.{Float, nan, lt}
 use Rattle.law.specs.Loop.{over}
 use Rattle.law.specs.Truth.{below-or}
 use Rattle.plane.specs.Plane.{_⊖_, _⊗_, _⊘_, zero32}
-use Rattle.plane.specs.Run.{dotRun}
+use Rattle.stretch.specs.Run.{dotRun}
 use Rattle.root.specs.Sqrt.{sqrtOf}
 use Rattle.shape.specs.Rows.{at}
 use Rattle.fits.specs.Cells.{Cell, place, Drawn, held, corner}

@@ -57,7 +57,7 @@ fn slot(
         return;
     }
     let off = 2 * j - low;
-    let block = plane::inner::block_at(blocks, k);
+    let block = vectors::inner::block_at(blocks, k);
     if j < i {
         beside(block, upper + off, lower + off, values);
         return;

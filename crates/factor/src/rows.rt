@@ -26,7 +26,7 @@ fn reduced(values: &[f32], low: usize, begin: usize, low_j: usize, begin_j: usiz
     let e = values[begin + (j - low)];
     if k < j {
         return e
-            - plane::run::dot(
+            - stretch::run::dot(
                 values,
                 begin + (k - low),
                 values,

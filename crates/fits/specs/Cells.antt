@@ -5,7 +5,8 @@ use mathlib.Core.List.{List}
 use mathlib.Core.Logic.{⊎-elim}
 use native.Mathlib.Omega.{arith}
 use native.Mathlib.Nat.{mul-le-mul}
-use lib.ListN.{length}
+use lib.ListN.{length, getD}
+use lib.Ieee.{Float, nan}
 use Rattle.law.specs.Loop.{rising, from}
 use Rattle.law.specs.Limit.{particles}
 use Rattle.law.specs.Truth.{below-or}
@@ -26,6 +27,10 @@ skyline-of {n} {o} {p} {f} {s} w = record { low = row-low n f (λ i l. (w .same 
 -- where the entry of row r and column c stands
 abbrev pub place : (ℕ → ℕ) → (ℕ → ℕ) → ℕ → ℕ → ℕ
 place f s r c = s r + (c - f r)
+
+-- the entries that a list of values holds there
+abbrev pub look : (ℕ → ℕ) → (ℕ → ℕ) → List Float → ℕ → ℕ → Float
+look f s v = λ r c. getD v (place f s r c) nan
 
 -- an entry of the envelope
 pub record Cell (m : ℕ) (f : ℕ → ℕ) (r c : ℕ) : Type 0 where

@@ -10,7 +10,7 @@ use Rattle.law.specs.Gather.{gather}
 use Rattle.law.specs.Room.{enough}
 use Rattle.law.specs.Refusal.{verdict}
 use Rattle.law.specs.Promise.{outcome}
-use Rattle.plane.specs.Whole.{dotAll}
+use Rattle.vectors.specs.Whole.{dotAll}
 use Rattle.shape.specs.Formed.{slotOk, homeOk, rowOk, stored, mirrorsOk, startsOk, wellFormed}
 use Rattle.shape.specs.Given.{patternRoom, formed}
 use Rattle.values.specs.Product.{slotStep, rowSum, productAt}

@@ -144,6 +144,21 @@ ready i h =
       z = e .1 .1 .1 .1 .1 .1 .1 .0;
     }
 
+-- the work asks nothing of x but its length
+pub ready-with : (i : In) (x : List Float) → length x ≡ length (i .x) → Ready i
+    → Ready (given (i .n) (i .row-offsets) (i .cols) (i .diagonal) (i .blocks) (i .preconditioner) (i .b) (i .tolerance) (i .max-iterations) x (i .residual) (i .direction) (i .a-direction) (i .z))
+ready-with i x e g = record {
+  few = g .few;
+  matrix = g .matrix;
+  preconditioner = g .preconditioner;
+  b = g .b;
+  x = omega (arith, g .x);
+  residual = g .residual;
+  direction = g .direction;
+  a-direction = g .a-direction;
+  z = g .z;
+}
+
 -- ---- the parts that the solve is done on, and what it leaves of the whole
 
 pub parts-sized : (i : In) → Ready i

@@ -30,13 +30,13 @@ pub fn updating(
     if law::PARTICLES < n {
         return 1;
     }
-    if !shape::given::pattern_room(n, row_offsets, cols, diagonal) {
+    if !checked::given::pattern_room(n, row_offsets, cols, diagonal) {
         return 3;
     }
     if !inverses_room(n, row_offsets, blocks, preconditioner) {
         return 3;
     }
-    if !shape::given::pattern_formed(n, row_offsets, cols, diagonal) {
+    if !checked::given::pattern_formed(n, row_offsets, cols, diagonal) {
         return 5;
     }
     0
@@ -97,7 +97,7 @@ pub fn solving(
     if law::PARTICLES < n {
         return 1;
     }
-    if !shape::given::pattern_room(n, row_offsets, cols, diagonal) {
+    if !checked::given::pattern_room(n, row_offsets, cols, diagonal) {
         return 3;
     }
     if !vectors_room(
@@ -114,7 +114,7 @@ pub fn solving(
     ) {
         return 3;
     }
-    if !shape::given::pattern_formed(n, row_offsets, cols, diagonal) {
+    if !checked::given::pattern_formed(n, row_offsets, cols, diagonal) {
         return 5;
     }
     if !settings_ok(tolerance, max_iterations) {

@@ -1,3 +1,4 @@
 // For measuring only: see measured.rt.
 mod measured;
 mod solver;
+mod steps;

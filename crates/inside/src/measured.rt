@@ -7,8 +7,8 @@ ghost use lib.ListN.{length};
 ghost use Rattle.shape.specs.Rows.{at, Held, Rows, Pattern};
 ghost use Rattle.shape.specs.Index.{Line};
 ghost use Rattle.build.specs.Build.{Ready};
-ghost use Rattle.envelope.specs.Plan.{four};
-ghost use Rattle.envelope.specs.Parts.{five, Ground, Room, Desk};
+ghost use Rattle.plans.specs.Plan.{four};
+ghost use Rattle.plans.specs.Parts.{five, Ground, Room, Desk};
 ghost use Rattle.turn.specs.Vectors.{Matrix};
 ghost use Rattle.turn.specs.Solve.{Sized};
 ghost use Rattle.turn.specs.Inverse.{Slots};
@@ -38,7 +38,7 @@ pub extern "C" fn inside_well_formed(
 ) -> bool
     requires { ⌜ Held n m (now «row_offsets») (now cols) (now diagonal) ⌝ }
 {
-    shape::formed::well_formed(n, m, row_offsets, cols, diagonal)
+    checked::formed::well_formed(n, m, row_offsets, cols, diagonal)
 }
 
 #[no_mangle]
@@ -95,7 +95,7 @@ pub extern "C" fn inside_plan(
 ) -> usize
     requires { ⌜ Ground (length (now perm)) (now «row_offsets») (now cols) × (Room (length (now perm)) (four (now perm) (now «inv_perm») (now first) (now «row_start»)) × Desk (length (now perm)) (five (now degrees) (now placed) (now mark) (now level) (now queue))) ⌝ }
 {
-    envelope::inner::plan(
+    plans::inner::plan(
         row_offsets,
         cols,
         perm,

@@ -10,20 +10,20 @@ use lib.Seq.{getD-take, getD-set-same, getD-set-other, take-at, take-suc-set, le
 use lib.Dec.{eqb}
 use borrow.Author.Tests.{eqb-true, eqb-false, eq-eqb, lt-ltb, le-ltb}
 use Rattle.law.specs.Limit.{particles}
-use Rattle.order.specs.Order.{among, passing, neighbours, degree, sorted, chooseStart, startAfter, fresh, filled, placing}
-use Rattle.order.specs.Tight.{Tight}
-use Rattle.order.specs.Keys.{keyOf, Below}
-use Rattle.order.specs.Marks.{unmarked, markAll, openOf, Visited, Stands}
-use Rattle.order.specs.Searches.{TableOf, SomeFree}
-use Rattle.order.proofs.At.{getD-at, In}
-use Rattle.order.proofs.Pigeon.{in-head, in-tail}
-use Rattle.order.proofs.Free.{some-unplaced, start-free}
-use Rattle.order.proofs.Placed.{placed-below, placed-few, placed-far, filled-below, filled-far}
-use Rattle.order.proofs.Rows.{adding, near}
-use Rattle.order.proofs.Sorting.{length-sort}
-use Rattle.order.proofs.Filling.{markAll-append, length-markAll}
-use Rattle.order.proofs.Looking.{keys-are}
-use Rattle.order.proofs.Visiting.{in-below}
+use Rattle.ordering.specs.Order.{among, passing, neighbours, degree, sorted, chooseStart, startAfter, fresh, filled, placing}
+use Rattle.ordering.specs.Tight.{Tight}
+use Rattle.ordering.specs.Keys.{keyOf, Below}
+use Rattle.ordering.specs.Marks.{unmarked, markAll, openOf, Visited, Stands}
+use Rattle.ordering.specs.Searches.{TableOf, SomeFree}
+use Rattle.ordering.proofs.At.{getD-at, In}
+use Rattle.ordering.proofs.Pigeon.{in-head, in-tail}
+use Rattle.ordering.proofs.Free.{some-unplaced, start-free}
+use Rattle.ordering.proofs.Placed.{placed-below, placed-few, placed-far, filled-below, filled-far}
+use Rattle.ordering.proofs.Rows.{adding, near}
+use Rattle.ordering.proofs.Sorting.{length-sort}
+use Rattle.ordering.proofs.Filling.{markAll-append, length-markAll}
+use Rattle.search.proofs.Looking.{keys-are}
+use Rattle.ordering.proofs.Visiting.{in-below}
 
 -- ---- marks are what the list holds
 

@@ -6,12 +6,12 @@ use mathlib.Core.Path.{_≡_, sym, ap, _∙_, subst}
 use mathlib.Core.List.{List, reverse}
 use lib.ListN.{length, getD, replicate}
 use Rattle.law.specs.Limit.{particles}
-use Rattle.order.specs.Order.{neighbours, startAfter, fresh, placing, orderOf}
-use Rattle.order.specs.Tight.{Tight}
+use Rattle.ordering.specs.Order.{neighbours, startAfter, fresh, placing, orderOf}
+use Rattle.ordering.specs.Tight.{Tight}
 use Rattle.order.specs.Left.{left, leftBy}
-use Rattle.order.specs.Keys.{Rising}
-use Rattle.order.specs.Searches.{TableOf, degreesTo}
-use Rattle.order.proofs.Degrees.{degrees-table}
+use Rattle.ordering.specs.Keys.{Rising}
+use Rattle.ordering.specs.Searches.{TableOf, degreesTo}
+use Rattle.ordering.proofs.Degrees.{degrees-table}
 
 pub rows-rise : (n m : ℕ) (starts cols : List ℕ) → Tight n starts cols → m ≡ n → (length starts ≡ suc m) × Rising starts m
 rows-rise n m starts cols tight p =

@@ -2,7 +2,7 @@
 use Prim.Native.Nat.{ℕ}
 use mathlib.Core.List.{List}
 use lib.ListN.{replicate}
-use Rattle.order.specs.Order.{orderOf}
+use Rattle.ordering.specs.Order.{orderOf}
 
 pub record Left : Type 0 where
   pub order : List ℕ

@@ -1,8 +1,1 @@
-pub mod Order
-pub mod Envelope
-pub mod Tight
 pub mod Left
-pub mod Keys
-pub mod Marks
-pub mod Searches
-mod Readings

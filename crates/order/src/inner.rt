@@ -1,12 +1,12 @@
 // The order itself, over a pattern that its caller knows to be well formed and lists of just the length needed.
 use crate::place;
-use crate::tables;
+use ordering::tables;
 ghost use mathlib.Core.Path.{_≡_};
 ghost use Prim.Native.Nat.{_≤_};
 ghost use lib.ListN.{length};
 ghost use Rattle.law.specs.Limit.{particles};
-ghost use Rattle.order.specs.Order.{orderOf};
-ghost use Rattle.order.specs.Tight.{Tight};
+ghost use Rattle.ordering.specs.Order.{orderOf};
+ghost use Rattle.ordering.specs.Tight.{Tight};
 ghost use Rattle.order.specs.Left.{left, leftBy};
 
 // Every list but the pattern's is as long as there are particles. What the work lists hold before is not read; they are left zero.

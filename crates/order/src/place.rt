@@ -1,7 +1,7 @@
 // The placing: breadth-first, stretch by stretch, each particle adding its unplaced neighbours by (degree, index). What is placed is marked.
-use crate::sort;
-use crate::start;
-use crate::tables;
+use ordering::sort;
+use ordering::tables;
+use search::start;
 ghost use mathlib.Core.Path.{_≡_};
 ghost use mathlib.Core.Bool.{not, _&&_};
 ghost use mathlib.Core.List.{_++_};
@@ -9,11 +9,11 @@ ghost use Prim.Native.Nat.{_+_, _≤_, _<_};
 ghost use lib.Dec.{eqb};
 ghost use lib.ListN.{length, take, drop, replicate};
 ghost use Rattle.law.specs.Limit.{particles};
-ghost use Rattle.order.specs.Order.{neighbours, startAfter, fresh, filled, placing};
-ghost use Rattle.order.specs.Tight.{Tight};
-ghost use Rattle.order.specs.Keys.{Below, RowAt};
-ghost use Rattle.order.specs.Marks.{unmarked, openOf, Visited, Stands};
-ghost use Rattle.order.specs.Searches.{TableOf};
+ghost use Rattle.ordering.specs.Order.{neighbours, startAfter, fresh, filled, placing};
+ghost use Rattle.ordering.specs.Tight.{Tight};
+ghost use Rattle.ordering.specs.Keys.{Below, RowAt};
+ghost use Rattle.ordering.specs.Marks.{unmarked, openOf, Visited, Stands};
+ghost use Rattle.ordering.specs.Searches.{TableOf};
 
 // Is w a neighbour of v, not v itself, that is not marked?
 fn is_wanted(mark: &[u32], v: usize, w: usize) -> bool

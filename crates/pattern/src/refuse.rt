@@ -23,13 +23,13 @@ pub fn row(n: usize, row_offsets: &[u32], cols: &[u32], diagonal: &[u32], row: u
     if law::PARTICLES < n {
         return 1;
     }
-    if !shape::given::pattern_room(n, row_offsets, cols, diagonal) {
+    if !checked::given::pattern_room(n, row_offsets, cols, diagonal) {
         return 3;
     }
     if n <= row {
         return 4;
     }
-    if !shape::given::pattern_formed(n, row_offsets, cols, diagonal) {
+    if !checked::given::pattern_formed(n, row_offsets, cols, diagonal) {
         return 5;
     }
     0
@@ -49,13 +49,13 @@ pub fn clearing(n: usize, row_offsets: &[u32], cols: &[u32], diagonal: &[u32], b
     if law::PARTICLES < n {
         return 1;
     }
-    if !shape::given::pattern_room(n, row_offsets, cols, diagonal) {
+    if !checked::given::pattern_room(n, row_offsets, cols, diagonal) {
         return 3;
     }
     if !blocks_room(n, row_offsets, blocks) {
         return 3;
     }
-    if !shape::given::pattern_formed(n, row_offsets, cols, diagonal) {
+    if !checked::given::pattern_formed(n, row_offsets, cols, diagonal) {
         return 5;
     }
     0
@@ -83,13 +83,13 @@ pub fn multiplying(
     if law::PARTICLES < n {
         return 1;
     }
-    if !shape::given::pattern_room(n, row_offsets, cols, diagonal) {
+    if !checked::given::pattern_room(n, row_offsets, cols, diagonal) {
         return 3;
     }
     if !values_room(n, row_offsets, blocks, x, out) {
         return 3;
     }
-    if !shape::given::pattern_formed(n, row_offsets, cols, diagonal) {
+    if !checked::given::pattern_formed(n, row_offsets, cols, diagonal) {
         return 5;
     }
     0
@@ -108,7 +108,7 @@ pub fn pinning(
     if law::PARTICLES < n {
         return 1;
     }
-    if !shape::given::pattern_room(n, row_offsets, cols, diagonal) {
+    if !checked::given::pattern_room(n, row_offsets, cols, diagonal) {
         return 3;
     }
     if !blocks_room(n, row_offsets, blocks) {
@@ -117,7 +117,7 @@ pub fn pinning(
     if n <= row {
         return 4;
     }
-    if !shape::given::pattern_formed(n, row_offsets, cols, diagonal) {
+    if !checked::given::pattern_formed(n, row_offsets, cols, diagonal) {
         return 5;
     }
     0

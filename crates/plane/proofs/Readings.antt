@@ -3,10 +3,8 @@ use mathlib.Core.Path.{_≡_, refl}
 use mathlib.Core.List.{List, [], _∷_, map}
 use Prim.Native.Nat.{ℕ}
 use lib.Ieee.{Float, binary32, ofBits, toBits, add, sub, mul, div, neg}
-use Rattle.law.specs.Loop.{over, fold}
 use Rattle.plane.specs.Plane.{Vector, Block, pair, determinantOf, dotOf, inverseOf, timesOf}
 use Rattle.plane.specs.Lent.{flat}
-use Rattle.plane.specs.Whole.{dotAll}
 
 shown : List Float → List ℕ
 shown l = map (toBits binary32) l
@@ -35,10 +33,9 @@ record Readings : Type 0 where
   determinant : shown (determinantOf stiff ∷ []) ≡ 0x42100000 ∷ []
   -- the inverse of plain is (0.5, -0.0), (-0.0, 0.25): the zeros are made by a product with a negative number
   inverse : shown (flat (inverseOf plain)) ≡ 0x3F000000 ∷ 0x80000000 ∷ 0x80000000 ∷ 0x3E800000 ∷ []
-  -- one particle's product is -0.0; the sum over the particles starts at +0.0 and stays there
+  -- one particle's product is -0.0
   dot : shown (dotOf less ones ∷ []) ≡ 0x80000000 ∷ []
-  sum : shown (dotAll 1 less ones ∷ []) ≡ 0 ∷ []
 
 readings : Readings
-unfolding shown vector stiff plain less ones dotAll over fold ofBits toBits add sub mul div neg
-readings = record { times = refl; determinant = refl; inverse = refl; dot = refl; sum = refl }
+unfolding shown vector stiff plain less ones ofBits toBits add sub mul div neg
+readings = record { times = refl; determinant = refl; inverse = refl; dot = refl }

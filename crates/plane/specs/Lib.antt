@@ -1,4 +1,2 @@
 pub mod Plane
 pub mod Lent
-pub mod Whole
-pub mod Run

@@ -3,9 +3,6 @@
 ghost use mathlib.Core.Path.{_≡_};
 ghost use Rattle.plane.specs.Plane.{addOf, subOf, scaleOf, dotOf, timesOf, determinantOf, inverseOf, finite, blockFinite};
 
-pub mod inner;
-pub mod run;
-
 pub type Vector = [f32; 2];
 
 pub type Block = [[f32; 2]; 2];

@@ -19,7 +19,7 @@ short-case k n m true e h ih p = rw (digits-one n (ltb-true n 10 e)) (omega arit
 short-case k n m false e h ih p =
     rw (digits-more n (ltb-false n 10 e), length-append) (omega (arith, ih (n / 10) (omega (arith, div-add-mod' n 10))))
 
-at-most-ten : (n : ℕ) → n < 4294967296 → length (digits n) ≤ 10
+pub at-most-ten : (n : ℕ) → n < 4294967296 → length (digits n) ≤ 10
 at-most-ten n h =
     up 8 1000000000 (up 7 100000000 (up 6 10000000 (up 5 1000000 (up 4 100000 (up 3 10000 (up 2 1000 (up 1 100 (up 0 10 few)))))))) n (omega arith)
   where

@@ -1,4 +1,4 @@
 mod Numbers
 mod Lists
-mod Lengths
+pub mod Lengths
 mod Readings

@@ -97,9 +97,13 @@ fn operate(name: &[u8], w: &[u32], out: &mut Room) -> usize
     if direct > 0 {
         return direct;
     }
-    let at = replay_gradient::operation::operate(name, w, out);
-    if at > 0 {
-        return at;
+    let iterated = replay_gradient::operation::operate(name, w, out);
+    if iterated > 0 {
+        return iterated;
+    }
+    let stepped = replay_step::operation::operate(name, w, out);
+    if stepped > 0 {
+        return stepped;
     }
     replay_matrix::operation::operate(name, w, out)
 }

@@ -10,19 +10,10 @@ use tokens::list::reals;
 use tokens::list::start;
 use tokens::list::stop;
 use tokens::print::Room;
-use tokens::print::float;
 use tokens::print::float_list;
-use tokens::print::whole;
 use tokens::print::word;
+use tokens::verdict::failed;
 use tokens::verdict::refused;
-
-fn failed(row: usize, pivot: f32, out: &mut Room) -> usize
-    ensures { λ r. ⌜ r ≤ room ⌝ }
-{
-    let at = word(b"failed", out, 0);
-    let to = whole(row as u64, out, at);
-    float(pivot, out, to)
-}
 
 fn factored(answer: Factored, out: &mut Room) -> usize
     ensures { λ r. ⌜ r ≤ room ⌝ }

@@ -19,7 +19,7 @@ pub fn solved(answer: Solved, out: &mut Room) -> usize
     }
 }
 
-fn pair(how: u64, count: usize, out: &mut Room, at: usize) -> usize
+pub fn pair(how: u64, count: usize, out: &mut Room, at: usize) -> usize
     requires { ⌜ at ≤ room ⌝ }
     ensures { λ r. ⌜ r ≤ room ⌝ }
 {
@@ -28,26 +28,76 @@ fn pair(how: u64, count: usize, out: &mut Room, at: usize) -> usize
     whole(count as u64, out, to)
 }
 
-fn one(how: u64, count: usize, residual: f32, out: &mut Room, at: usize) -> usize
+// The outcome's number and count.
+pub fn numbers(o: Outcome, out: &mut Room, at: usize) -> usize
     requires { ⌜ at ≤ room ⌝ }
     ensures { λ r. ⌜ r ≤ room ⌝ }
 {
-    let mut to = pair(how, count, out, at);
-    to = whole(1, out, to);
-    float(residual, out, to)
+    match o {
+        Outcome::Zero { count } => pair(1, count, out, at),
+        Outcome::Near { count, residual: _ } => pair(2, count, out, at),
+        Outcome::Converged { count, residual: _ } => pair(3, count, out, at),
+        Outcome::Curvature {
+            count,
+            residual: _,
+            denominator: _,
+        } => pair(4, count, out, at),
+        Outcome::Limit { count, residual: _ } => pair(5, count, out, at),
+    }
 }
 
-fn two(count: usize, residual: f32, denominator: f32, out: &mut Room, at: usize) -> usize
+// How many floats it carries.
+pub fn carried(o: Outcome) -> u64
+    ensures { λ r. ⌜ r ≤ 2 ⌝ }
+{
+    match o {
+        Outcome::Zero { count: _ } => 0,
+        Outcome::Near {
+            count: _,
+            residual: _,
+        } => 1,
+        Outcome::Converged {
+            count: _,
+            residual: _,
+        } => 1,
+        Outcome::Curvature {
+            count: _,
+            residual: _,
+            denominator: _,
+        } => 2,
+        Outcome::Limit {
+            count: _,
+            residual: _,
+        } => 1,
+    }
+}
+
+fn two(a: f32, b: f32, out: &mut Room, at: usize) -> usize
     requires { ⌜ at ≤ room ⌝ }
     ensures { λ r. ⌜ r ≤ room ⌝ }
 {
-    let mut to = pair(4, count, out, at);
-    to = whole(2, out, to);
-    to = float(residual, out, to);
-    float(denominator, out, to)
+    let to = float(a, out, at);
+    float(b, out, to)
 }
 
-fn none(out: &mut Room, at: usize) -> usize
+pub fn floats(o: Outcome, out: &mut Room, at: usize) -> usize
+    requires { ⌜ at ≤ room ⌝ }
+    ensures { λ r. ⌜ r ≤ room ⌝ }
+{
+    match o {
+        Outcome::Zero { count: _ } => at,
+        Outcome::Near { count: _, residual } => float(residual, out, at),
+        Outcome::Converged { count: _, residual } => float(residual, out, at),
+        Outcome::Curvature {
+            count: _,
+            residual,
+            denominator,
+        } => two(residual, denominator, out, at),
+        Outcome::Limit { count: _, residual } => float(residual, out, at),
+    }
+}
+
+pub fn none(out: &mut Room, at: usize) -> usize
     requires { ⌜ at ≤ room ⌝ }
     ensures { λ r. ⌜ r ≤ room ⌝ }
 {
@@ -55,38 +105,13 @@ fn none(out: &mut Room, at: usize) -> usize
     whole(0, out, to)
 }
 
-fn zero(count: usize, out: &mut Room, at: usize) -> usize
+pub fn outcome(o: Outcome, out: &mut Room, at: usize) -> usize
     requires { ⌜ at ≤ room ⌝ }
     ensures { λ r. ⌜ r ≤ room ⌝ }
 {
-    let to = pair(1, count, out, at);
-    whole(0, out, to)
-}
-
-fn outcome(o: Outcome, out: &mut Room, at: usize) -> usize
-    requires { ⌜ at ≤ room ⌝ }
-    ensures { λ r. ⌜ r ≤ room ⌝ }
-{
-    match o {
-        Outcome::Zero { count: k } => zero(k, out, at),
-        Outcome::Near {
-            count: k,
-            residual: a,
-        } => one(2, k, a, out, at),
-        Outcome::Converged {
-            count: k,
-            residual: a,
-        } => one(3, k, a, out, at),
-        Outcome::Curvature {
-            count: k,
-            residual: a,
-            denominator: d,
-        } => two(k, a, d, out, at),
-        Outcome::Limit {
-            count: k,
-            residual: a,
-        } => one(5, k, a, out, at),
-    }
+    let mut to = numbers(o, out, at);
+    to = whole(carried(o), out, to);
+    floats(o, out, to)
 }
 
 pub fn told(answer: Solved, out: &mut Room, at: usize) -> usize

@@ -1,5 +1,5 @@
 // The conjugate gradient's operations on the words of a stored case's line.
-mod ending;
+pub mod ending;
 pub mod operation;
 mod solve;
 mod update;

@@ -20,7 +20,7 @@ use Rattle.tally.specs.Runs.{fresh, countOf, after, solves, ofKind, sum-is, cou
 use Rattle.step.specs.declared.Stepped.{Stepped}
 use Rattle.step.specs.declared.Stepped.the-variants as steps
 use Rattle.step.specs.Stepping as S
-use Rattle.response.specs.Entries.{rawGain, gainOf}
+use Rattle.gains.specs.Entries.{rawGain, gainOf}
 use Rattle.response.specs.Responding as R
 use Rattle.report.specs.Counting.{askedOf, askedBy, afterStep, afterResponse}
 

@@ -7,7 +7,7 @@ ghost use Rattle.step.specs.Stepping as stepping;
 ghost use Rattle.response.specs.Responding as responding;
 ghost use Rattle.report.specs.Counting.{afterStep, afterResponse};
 
-mod asked;
+pub mod asked;
 
 // A x = b by the step's factor if 2n is at most max_dense_dofs and the mark is set; otherwise x is zeroed and iterated.
 pub fn solve_step(

@@ -5,23 +5,20 @@ use mathlib.Core.Bool.{Bool, true, false, cond}
 use mathlib.Core.List.{List, _∷_}
 use native.Mathlib.Omega.{arith}
 use lib.Dec.{leb}
-use lib.ListN.{length}
 use lib.Ieee.{Float}
 use borrow.Author.Tests.{leb-true}
 use Rattle.law.specs.Limit.{particles, entries}
 use Rattle.law.specs.Room.{enough}
-use Rattle.law.specs.Refusal.{Test, unless, Rising, verdict, all-pass, none-fails, when}
+use Rattle.law.specs.Refusal.{Test, unless, Rising, verdict, all-pass, none-fails}
 use Rattle.law.specs.Promise.{Door}
 use Rattle.plane.specs.Plane.{zero32}
-use Rattle.shape.specs.Given.{patternRoom}
-use Rattle.gradient.specs.Solving.{vectorsRoom}
 use Rattle.step.specs.declared.Stepped.{Stepped}
 use Rattle.step.specs.declared.Stepped.the-variants as stepped
-use Rattle.step.specs.Dense.{cleared, swept, planHeld, later}
+use Rattle.step.specs.Dense.{cleared, swept, stepHeld, structural, later}
 use Rattle.step.specs.Stepping as S
 use Rattle.response.specs.declared.Responded.{Responded}
 use Rattle.response.specs.declared.Responded.the-variants.{Refused, Nothing, Direct, Iterated}
-use Rattle.response.specs.Entries.{entriesRoom, below, anyFree, loaded, rawGain, gainOf, Entries, entries-of, cleared-again}
+use Rattle.gains.specs.Entries.{entriesRoom, below, anyFree, loaded, rawGain, gainOf, Entries, entries-of, cleared-again}
 
 pub record In : Type 0 where
   pub n : ℕ
@@ -111,17 +108,14 @@ unfoldable pub refusals : In → List Test
 refusals i =
     unless 1 (leb (i .n) particles)
     ∷ unless 2 (leb (i .count) entries)
-    ∷ unless 3 (enough true (patternRoom (i .n) (i .row-offsets) (i .cols) (i .diagonal)))
-    ∷ unless 3 (enough true (vectorsRoom (i .n) (i .row-offsets) (i .blocks) (i .preconditioner) (i .rhs) (i .out) (i .residual) (i .direction) (i .a-direction) (i .z)))
-    ∷ unless 3 (when (dense i) (planHeld (i .n) (i .perm) (i .inv-perm) (i .first) (i .row-start) (i .values)))
-    ∷ unless 3 (when (dense i) (leb (2 * i .n) (length (i .scratch))))
+    ∷ unless 3 (stepHeld (dense i) (i .n) (i .row-offsets) (i .cols) (i .diagonal) (i .blocks) (i .perm) (i .inv-perm) (i .first) (i .row-start) (i .values) (i .preconditioner) (i .rhs) (i .out) (i .scratch) (i .residual) (i .direction) (i .a-direction) (i .z))
     ∷ unless 3 (enough true (entriesRoom (i .n) (i .pinned) (i .count) (i .particles) (i .gradients)))
     ∷ unless 4 (below (i .n) (i .count) (i .particles))
     ∷ later (dense i) (i .n) (i .row-offsets) (i .cols) (i .diagonal) (i .perm) (i .inv-perm) (i .first) (i .row-start) (i .tolerance) (i .max-iterations)
 
 pub in-order : (i : In) → Rising 1 (refusals i)
-unfolding refusals later
-in-order i = (omega arith, (omega arith, (omega arith, (omega arith, (omega arith, (omega arith, (omega arith, (omega arith, (omega arith, (omega arith, (omega arith, (omega arith, tt))))))))))))
+unfolding refusals later structural
+in-order i = (omega arith, (omega arith, (omega arith, (omega arith, (omega arith, (omega arith, (omega arith, (omega arith, (omega arith, tt)))))))))
 
 -- THE WORK. No entry is left: zeros, and nothing is asked for
 unfoldable pub idle : In → Out
@@ -166,14 +160,13 @@ pub record Ready (i : In) : Type 0 where
   pub entered : Entries (i .n) (i .pinned) (i .count) (i .particles) (i .gradients)
 
 pub ready : (i : In) → verdict (refusals i) ≡ 0 → Ready i
-unfolding refusals S.refusals later
+unfolding refusals S.refusals later structural
 ready i h =
     let p = all-pass 1 (refusals i) (omega arith) (in-order i) h in
     let q = p .1 .1 in
-    let t = q .1 .1 .1 .1 in
     record {
-      solvable = S.ready (forStep i (i .rhs)) (none-fails (S.refusals (forStep i (i .rhs))) (p .0, (q .0, (q .1 .0, (q .1 .1 .0, (q .1 .1 .1 .0, t .1 .1))))));
-      entered = entries-of (i .n) (i .pinned) (i .count) (i .particles) (i .gradients) (leb-true _ _ (p .1 .0)) (t .0) (t .1 .0);
+      solvable = S.ready (forStep i (i .rhs)) (none-fails (S.refusals (forStep i (i .rhs))) (p .0, (q .0, q .1 .1 .1)));
+      entered = entries-of (i .n) (i .pinned) (i .count) (i .particles) (i .gradients) (leb-true _ _ (p .1 .0)) (q .1 .0) (q .1 .1 .0);
     }
 
 -- ---- the two ends

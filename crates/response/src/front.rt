@@ -1,6 +1,6 @@
 // The work of a response, once its tests have passed.
 use crate::Responded;
-use crate::entries;
+use gains::entries;
 use step::Stepped;
 ghost use mathlib.Core.Path.{_≡_};
 ghost use Rattle.response.specs.Responding.{given, left, Ready, answerOf, answered, work};
@@ -47,7 +47,7 @@ fn solve(
     requires { ⌜ Ready (given n (now «row_offsets») (now cols) (now diagonal) (now blocks) (now perm) (now «inv_perm») (now first) (now «row_start») (now values) factored (now preconditioner) tolerance «max_iterations» «max_dense_dofs» (now pinned) count (now particles) (now gradients) (now out) (now rhs) (now scratch) (now residual) (now direction) (now «a_direction») (now z)) ⌝ }
     ensures { λ r. ⌜ left r (now (out .exit)) (now (rhs .exit)) (now (scratch .exit)) (now (residual .exit)) (now (direction .exit)) (now («a_direction» .exit)) (now (z .exit)) ≡ answered (given n (now («row_offsets» .entry)) (now (cols .entry)) (now (diagonal .entry)) (now (blocks .entry)) (now (perm .entry)) (now («inv_perm» .entry)) (now (first .entry)) (now («row_start» .entry)) (now (values .entry)) factored (now (preconditioner .entry)) tolerance «max_iterations» «max_dense_dofs» (now (pinned .entry)) count (now (particles .entry)) (now (gradients .entry)) (now (out .entry)) (now (rhs .entry)) (now (scratch .entry)) (now (residual .entry)) (now (direction .entry)) (now («a_direction» .entry)) (now (z .entry))) ⌝ }
 {
-    plane::inner::clear(n, rhs);
+    vectors::inner::clear(n, rhs);
     entries::load(n, pinned, count, particles, gradients, rhs);
     let how = step::front::route(
         n,
@@ -74,7 +74,7 @@ fn solve(
         z,
     );
     let raw = entries::raw_gain(n, pinned, count, particles, gradients, out);
-    plane::inner::clear(n, rhs);
+    vectors::inner::clear(n, rhs);
     answer(how, entries::gain_of(raw))
 }
 
@@ -139,8 +139,8 @@ pub fn respond(
             z,
         );
     }
-    plane::inner::clear(n, out);
-    plane::inner::clear(n, rhs);
+    vectors::inner::clear(n, out);
+    vectors::inner::clear(n, rhs);
     step::front::sweep(2 * n <= max_dense_dofs, n, scratch);
     step::front::clear4(n, residual, direction, a_direction, z);
     Responded::Nothing

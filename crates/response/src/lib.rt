@@ -1,8 +1,7 @@
 // The response to a constraint's entries over lent slices, soft_fem_system_response.rs's response_into (document 01, module 6). Its door lends the tally and stands in `report`.
 use turn::Outcome;
 
-mod entries;
-mod front;
+pub mod front;
 pub mod inner;
 mod refuse;
 

@@ -1,5 +1,5 @@
 // The number that a response is refused by. Tests run in phases, so that none reads past a list's end.
-use crate::entries;
+use gains::entries;
 ghost use mathlib.Core.Path.{_≡_};
 ghost use Rattle.law.specs.Refusal.{verdict};
 ghost use Rattle.response.specs.Responding.{given, refusals};
@@ -40,28 +40,28 @@ pub fn responding(
     if law::ENTRIES < count {
         return 2;
     }
-    if !shape::given::pattern_room(n, row_offsets, cols, diagonal) {
-        return 3;
-    }
-    if !gradient::refuse::vectors_room(
+    let dense = 2 * n <= max_dense_dofs;
+    if !step::refuse::room(
+        dense,
         n,
         row_offsets,
+        cols,
+        diagonal,
         blocks,
+        perm,
+        inv_perm,
+        first,
+        row_start,
+        values,
         preconditioner,
         rhs,
         out,
+        scratch,
         residual,
         direction,
         a_direction,
         z,
     ) {
-        return 3;
-    }
-    let dense = 2 * n <= max_dense_dofs;
-    if !step::dense::plan_room(dense, n, perm, inv_perm, first, row_start, values) {
-        return 3;
-    }
-    if !step::dense::scratch_room(dense, n, scratch) {
         return 3;
     }
     if !entries::entries_room(n, pinned, count, particles, gradients) {

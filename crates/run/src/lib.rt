@@ -1,2 +1,2 @@
-// The conjugate gradient's run of turns, its finish, and the solve (document 01, module 5). `turn` has their definition.
+// The conjugate gradient's solve (document 01, module 5). `turn` has its definition.
 pub mod inner;

@@ -4,5 +4,4 @@ pub mod Phases
 pub mod Made
 pub mod Halves
 pub mod Index
-pub mod Row
 pub mod Given

@@ -1,6 +1,2 @@
-// The shape of a block matrix: its test, a pattern as a call is handed it, the search for a slot, and a view of one row.
-pub mod formed;
-pub mod given;
+// The shape of a block matrix: when it is well formed, as a definition with its laws, and the search for a slot.
 pub mod index;
-mod mirror;
-pub mod row;

@@ -2,21 +2,19 @@
 use Prim.Native.Nat.{ℕ, _*_, _≤_}
 use mathlib.Core.Path.{_≡_, refl, ap}
 use mathlib.Core.Bool.{Bool, true, false, cond}
-use mathlib.Core.List.{List, [], _∷_}
+use mathlib.Core.List.{List, _∷_}
 use native.Mathlib.Omega.{arith}
 use lib.Dec.{leb}
 use lib.Ieee.{Float}
 use borrow.Author.Tests.{leb-true}
-use Rattle.law.specs.Limit.{particles, envelope}
+use Rattle.law.specs.Limit.{particles}
 use Rattle.law.specs.Mix.{mix}
 use Rattle.law.specs.Room.{enough, enough-is, enough-of}
 use Rattle.law.specs.Truth.{both}
 use Rattle.law.specs.Refusal.{Test, unless, Rising, verdict, all-pass, none-fails, when, when-is}
 use Rattle.law.specs.Promise.{Door}
-use Rattle.shape.specs.Rows.{at}
-use Rattle.shape.specs.Given.{patternRoom, formed}
-use Rattle.fits.specs.Fits.{fitsOk}
-use Rattle.fits.specs.Given.{planRoom, lengthOf}
+use Rattle.shape.specs.Given.{patternRoom}
+use Rattle.fits.specs.Given.{planRoom}
 use Rattle.turn.specs.Inverse.{inverseAt}
 use Rattle.direct.specs.declared.Factored.{Factored}
 use Rattle.direct.specs.declared.Factored.the-variants as factors
@@ -24,7 +22,7 @@ use Rattle.direct.specs.Factorizing as F
 use Rattle.gradient.specs.Updating as U
 use Rattle.step.specs.declared.Marked.{Marked}
 use Rattle.step.specs.declared.Marked.the-variants.{Refused, Direct, Failed, Iterative}
-use Rattle.step.specs.Dense.{planHeld, held-values}
+use Rattle.step.specs.Dense.{planHeld, structural, held-values}
 
 pub record In : Type 0 where
   pub n : ℕ
@@ -81,13 +79,10 @@ refusals i =
     ∷ unless 3 (enough true (patternRoom (i .n) (i .row-offsets) (i .cols) (i .diagonal)))
     ∷ unless 3 (enough true (U.inversesRoom (i .n) (i .row-offsets) (i .blocks) (i .preconditioner)))
     ∷ unless 3 (when (dense i) (planHeld (i .n) (i .perm) (i .inv-perm) (i .first) (i .row-start) (i .values)))
-    ∷ unless 5 (formed (i .n) (i .row-offsets) (i .cols) (i .diagonal))
-    ∷ unless 6 (when (dense i) (fitsOk (i .n) (at (i .row-offsets)) (at (i .cols)) (at (i .perm)) (at (i .inv-perm)) (at (i .first)) (at (i .row-start))))
-    ∷ unless 7 (when (dense i) (leb (lengthOf (i .n) (i .row-start)) envelope))
-    ∷ []
+    ∷ structural (dense i) (i .n) (i .row-offsets) (i .cols) (i .diagonal) (i .perm) (i .inv-perm) (i .first) (i .row-start)
 
 pub in-order : (i : In) → Rising 1 (refusals i)
-unfolding refusals
+unfolding refusals structural
 in-order i = (omega arith, (omega arith, (omega arith, (omega arith, (omega arith, (omega arith, (omega arith, tt)))))))
 
 -- THE WORK. The preconditioner, updated
@@ -123,7 +118,7 @@ pub record Ready (i : In) : Type 0 where
   pub planned : dense i ≡ true → F.Ready (forFactor i)
 
 pub ready : (i : In) → verdict (refusals i) ≡ 0 → Ready i
-unfolding refusals U.refusals U.inversesRoom F.refusals F.valuesRoom planHeld
+unfolding refusals structural U.refusals U.inversesRoom F.refusals F.valuesRoom planHeld
 ready i h =
     let p = all-pass 1 (refusals i) (omega arith) (in-order i) h in
     let q = p .1 .1 .1 in

@@ -9,10 +9,8 @@ use lib.ListN.{length}
 use lib.Ieee.{Float}
 use borrow.Author.Tests.{leb-true}
 use Rattle.law.specs.Limit.{particles}
-use Rattle.law.specs.Room.{enough}
-use Rattle.law.specs.Refusal.{Test, unless, Rising, verdict, all-pass, none-fails, when, when-is}
+use Rattle.law.specs.Refusal.{Test, unless, Rising, verdict, all-pass, none-fails, when-is}
 use Rattle.law.specs.Promise.{Door}
-use Rattle.shape.specs.Given.{patternRoom}
 use Rattle.fits.specs.Given.{lengthOf}
 use Rattle.turn.specs.declared.Outcome.{Outcome}
 use Rattle.direct.specs.declared.Solved as direct
@@ -22,7 +20,7 @@ use Rattle.gradient.specs.declared.Solved.the-variants as gradients
 use Rattle.gradient.specs.Solving as G
 use Rattle.step.specs.declared.Stepped.{Stepped}
 use Rattle.step.specs.declared.Stepped.the-variants.{Refused, Direct, Iterated}
-use Rattle.step.specs.Dense.{cleared, swept, planHeld, later, held-values, plan-held}
+use Rattle.step.specs.Dense.{cleared, swept, stepHeld, structural, later, held-values, plan-held, step-held}
 
 pub record In : Type 0 where
   pub n : ℕ
@@ -101,15 +99,12 @@ forIterative i x = G.given (i .n) (i .row-offsets) (i .cols) (i .diagonal) (i .b
 unfoldable pub refusals : In → List Test
 refusals i =
     unless 1 (leb (i .n) particles)
-    ∷ unless 3 (enough true (patternRoom (i .n) (i .row-offsets) (i .cols) (i .diagonal)))
-    ∷ unless 3 (enough true (G.vectorsRoom (i .n) (i .row-offsets) (i .blocks) (i .preconditioner) (i .b) (i .x) (i .residual) (i .direction) (i .a-direction) (i .z)))
-    ∷ unless 3 (when (dense i) (planHeld (i .n) (i .perm) (i .inv-perm) (i .first) (i .row-start) (i .values)))
-    ∷ unless 3 (when (dense i) (leb (2 * i .n) (length (i .scratch))))
+    ∷ unless 3 (stepHeld (dense i) (i .n) (i .row-offsets) (i .cols) (i .diagonal) (i .blocks) (i .perm) (i .inv-perm) (i .first) (i .row-start) (i .values) (i .preconditioner) (i .b) (i .x) (i .scratch) (i .residual) (i .direction) (i .a-direction) (i .z))
     ∷ later (dense i) (i .n) (i .row-offsets) (i .cols) (i .diagonal) (i .perm) (i .inv-perm) (i .first) (i .row-start) (i .tolerance) (i .max-iterations)
 
 pub in-order : (i : In) → Rising 1 (refusals i)
-unfolding refusals later
-in-order i = (omega arith, (omega arith, (omega arith, (omega arith, (omega arith, (omega arith, (omega arith, (omega arith, (omega arith, tt)))))))))
+unfolding refusals later structural
+in-order i = (omega arith, (omega arith, (omega arith, (omega arith, (omega arith, (omega arith, tt))))))
 
 -- THE WORK. By the factor, with the work buffers of the other route zeroed
 unfoldable pub directly : In → Out
@@ -142,39 +137,24 @@ pub record Ready (i : In) : Type 0 where
   pub planned : dense i ≡ true → D.Ready (forDirect i)
 
 pub ready : (i : In) → verdict (refusals i) ≡ 0 → Ready i
-unfolding refusals later G.refusals lengthOf
+unfolding refusals later structural G.refusals lengthOf
 ready i h =
     let p = all-pass 1 (refusals i) (omega arith) (in-order i) h in
-    let q = p .1 .1 .1 in
-    let l = q .1 .1 in
-    let g = G.ready (forIterative i (i .x)) (none-fails (G.refusals (forIterative i (i .x))) (p .0, (p .1 .0, (p .1 .1 .0, (l .0, (l .1 .1 .1 .0, tt)))))) in
+    let q = step-held (dense i) (i .n) (i .row-offsets) (i .cols) (i .diagonal) (i .blocks) (i .perm) (i .inv-perm) (i .first) (i .row-start) (i .values) (i .preconditioner) (i .b) (i .x) (i .scratch) (i .residual) (i .direction) (i .a-direction) (i .z) (p .1 .0) in
+    let l = p .1 .1 in
+    let g = G.ready (forIterative i (i .x)) (none-fails (G.refusals (forIterative i (i .x))) (p .0, (q .0, (q .1, (l .0, (l .1 .1 .1 .0, tt)))))) in
     record {
       iterable = g;
       planned = λ d.
-          let t = when-is (dense i) _ (q .0) d in
+          let t = when-is (dense i) _ (q .2) d in
           record {
             plan = plan-held (i .n) (i .perm) (i .inv-perm) (i .first) (i .row-start) (i .values) (i .row-offsets) (i .cols) (g .few) t (when-is (dense i) _ (l .1 .0) d);
             values = held-values (i .n) (i .perm) (i .inv-perm) (i .first) (i .row-start) (i .values) t;
             b = g .b;
             x = g .x;
-            scratch = leb-true _ _ (when-is (dense i) _ (q .1 .0) d);
+            scratch = leb-true _ _ (when-is (dense i) _ (q .3) d);
           };
     }
-
--- the iterative route asks nothing of x but its length
-pub ready-with : (i : G.In) (x : List Float) → length x ≡ length (i .x) → G.Ready i
-    → G.Ready (G.given (i .n) (i .row-offsets) (i .cols) (i .diagonal) (i .blocks) (i .preconditioner) (i .b) (i .tolerance) (i .max-iterations) x (i .residual) (i .direction) (i .a-direction) (i .z))
-ready-with i x e g = record {
-  few = g .few;
-  matrix = g .matrix;
-  preconditioner = g .preconditioner;
-  b = g .b;
-  x = omega (arith, g .x);
-  residual = g .residual;
-  direction = g .direction;
-  a-direction = g .a-direction;
-  z = g .z;
-}
 
 -- ---- the two routes' ends
 

@@ -18,10 +18,10 @@ pub fn clear4(n: usize, a: &mut [f32], b: &mut [f32], c: &mut [f32], d: &mut [f3
     requires { ⌜ (2 * n ≤ length (now a)) × (2 * n ≤ length (now b)) × (2 * n ≤ length (now c)) × (2 * n ≤ length (now d)) ⌝ }
     ensures { λ _. ⌜ (now (a .exit) ≡ cleared n (now (a .entry))) × (now (b .exit) ≡ cleared n (now (b .entry))) × (now (c .exit) ≡ cleared n (now (c .entry))) × (now (d .exit) ≡ cleared n (now (d .entry))) ⌝ }
 {
-    plane::inner::clear(n, a);
-    plane::inner::clear(n, b);
-    plane::inner::clear(n, c);
-    plane::inner::clear(n, d);
+    vectors::inner::clear(n, a);
+    vectors::inner::clear(n, b);
+    vectors::inner::clear(n, c);
+    vectors::inner::clear(n, d);
 }
 
 // The scratch is a work buffer only where the plan counts.
@@ -30,7 +30,7 @@ pub fn sweep(dense: bool, n: usize, scratch: &mut [f32])
     ensures { λ _. ⌜ now (scratch .exit) ≡ swept dense n (now (scratch .entry)) ⌝ }
 {
     if dense {
-        plane::inner::clear(n, scratch);
+        vectors::inner::clear(n, scratch);
     }
 }
 
@@ -53,7 +53,7 @@ fn iterate(
     requires { ⌜ G.Ready (G.given n (now «row_offsets») (now cols) (now diagonal) (now blocks) (now preconditioner) (now b) tolerance «max_iterations» (now x) (now residual) (now direction) (now «a_direction») (now z)) ⌝ }
     ensures { λ o. ⌜ G.left (Ran o) (now (x .exit)) (now (residual .exit)) (now (direction .exit)) (now («a_direction» .exit)) (now (z .exit)) ≡ G.work (G.given n (now («row_offsets» .entry)) (now (cols .entry)) (now (diagonal .entry)) (now (blocks .entry)) (now (preconditioner .entry)) (now (b .entry)) tolerance «max_iterations» (cleared n (now (x .entry))) (now (residual .entry)) (now (direction .entry)) (now («a_direction» .entry)) (now (z .entry))) ⌝ }
 {
-    plane::inner::clear(n, x);
+    vectors::inner::clear(n, x);
     gradient::front::solve(
         n,
         row_offsets,

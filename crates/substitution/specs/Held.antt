@@ -11,11 +11,11 @@ use Rattle.law.specs.Gather.{gather}
 use Rattle.law.specs.Mix.{mix, mix-whole}
 use Rattle.plane.specs.Plane.{_⊖_, _⊘_, zero32, zeroOf}
 use Rattle.plane.specs.Lent.{vectorAt}
-use Rattle.plane.specs.Run.{runStep, dotRun, takeStep, takeRun}
+use Rattle.stretch.specs.Run.{runStep, dotRun, takeStep, takeRun}
 use Rattle.shape.specs.Rows.{at}
-use Rattle.fits.specs.Cells.{Drawn, drawn-of, held, corner}
+use Rattle.fits.specs.Cells.{Drawn, drawn-of, held, corner, look}
 use Rattle.fits.specs.Lists.{Plan}
-use Rattle.substitution.specs.Solve.{sumStep, rowSum, forwardBy, forwardOf, takenStep, takenOf, backStep, backwardOf, entryOf, permuted, placedOf, solveOf, left, solvedOf}
+use Rattle.substitution.specs.Solve.{sumStep, rowSum, forwardBy, forwardOf, takenStep, takenOf, backStep, backwardOf, permuted, placedOf, solveOf, left, solvedOf}
 
 -- m rows
 pub record Held (m : ℕ) (first starts : List ℕ) (values : List Float) : Type 0 where
@@ -41,30 +41,30 @@ row-of w i l = record {
 }
 
 module _ (f s : ℕ → ℕ) (v : List Float) (i : ℕ) where
-  pub sum-run : (y : List Float) → dotRun v (s i) y (f i) (i - f i) ≡ rowSum f (entryOf f s v) y i
+  pub sum-run : (y : List Float) → dotRun v (s i) y (f i) (i - f i) ≡ rowSum f (look f s v) y i
   unfolding dotRun rowSum
   sum-run y =
-      over-shift (runStep v (s i) y (f i)) (sumStep (entryOf f s v) y i) (f i) i zero32
+      over-shift (runStep v (s i) y (f i)) (sumStep (look f s v) y i) (f i) i zero32
       (λ c t l. let e : (f i + c) - f i ≡ c = omega arith in rw e)
 
-  pub take-run : (x : Float) (y : List Float) → takeRun v (s i) (f i) (i - f i) x y ≡ takenOf f (entryOf f s v) i x y
+  pub take-run : (x : Float) (y : List Float) → takeRun v (s i) (f i) (i - f i) x y ≡ takenOf f (look f s v) i x y
   unfolding takeRun takenOf
   take-run x y =
-      over-shift (takeStep v (s i) (f i) x) (takenStep (entryOf f s v) i x) (f i) i y
+      over-shift (takeStep v (s i) (f i) x) (takenStep (look f s v) i x) (f i) i y
       (λ c t l. let e : (f i + c) - f i ≡ c = omega arith in rw e)
 
 -- ---- row i's turn as the code has it: `from` and `start` are what it read
 
 module _ (first starts : List ℕ) (v y : List Float) (i from start : ℕ) (a : from ≡ at first i) (b : start ≡ at starts i) where
-  pub forward-bare : i ≤ from → getD y i nan ⊘ getD v (start + (i - from)) nan ≡ forwardBy (at first) (entryOf (at first) (at starts) v) y (getD y i nan) i
+  pub forward-bare : i ≤ from → getD y i nan ⊘ getD v (start + (i - from)) nan ≡ forwardBy (at first) (look (at first) (at starts) v) y (getD y i nan) i
   unfolding forwardBy
   forward-bare h = rw (b, a, le-ltb _ _ (rw a at h))
 
-  pub forward-less : from < i → (getD y i nan ⊖ dotRun v start y from (i - from)) ⊘ getD v (start + (i - from)) nan ≡ forwardBy (at first) (entryOf (at first) (at starts) v) y (getD y i nan) i
+  pub forward-less : from < i → (getD y i nan ⊖ dotRun v start y from (i - from)) ⊘ getD v (start + (i - from)) nan ≡ forwardBy (at first) (look (at first) (at starts) v) y (getD y i nan) i
   unfolding forwardBy
   forward-less h = rw (b, a, lt-ltb _ _ (rw a at h), sum-run (at first) (at starts) v i y)
 
-  pub back-turn : (x : Float) (z : List Float) → x ≡ getD y i nan ⊘ getD v (start + (i - from)) nan → z ≡ takeRun v start from (i - from) x (set y i x) → z ≡ backStep (at first) (entryOf (at first) (at starts) v) i y
+  pub back-turn : (x : Float) (z : List Float) → x ≡ getD y i nan ⊘ getD v (start + (i - from)) nan → z ≡ takeRun v start from (i - from) x (set y i x) → z ≡ backStep (at first) (look (at first) (at starts) v) i y
   unfolding backStep
   back-turn x z e q = q ∙ rw (e, b, a, take-run (at first) (at starts) v i)
 
@@ -72,10 +72,10 @@ module _ (first starts : List ℕ) (v y : List Float) (i from start : ℕ) (a : 
 
 module _ (n : ℕ) (o p f s : ℕ → ℕ) (v b : List Float) where
   pub solve-calls : (x₀ x₁ y₀ y₁ y₂ y₃ y₄ : List Float) → length x₀ ≡ 2 * n → length y₀ ≡ 2 * n → length y₃ ≡ 2 * n
-      → y₁ ≡ mix 2 n (λ i. vectorAt b (o i)) y₀ → y₂ ≡ forwardOf f (entryOf f s v) (2 * n) y₁ → y₃ ≡ backwardOf f (entryOf f s v) (2 * n) y₂
+      → y₁ ≡ mix 2 n (λ i. vectorAt b (o i)) y₀ → y₂ ≡ forwardOf f (look f s v) (2 * n) y₁ → y₃ ≡ backwardOf f (look f s v) (2 * n) y₂
       → x₁ ≡ mix 2 n (λ i. vectorAt y₃ (p i)) x₀ → y₄ ≡ mix 2 n (λ k. zeroOf) y₃ → left x₁ y₄ ≡ solvedOf n o p f s v b
   unfolding solvedOf solveOf placedOf permuted
   solve-calls x₀ x₁ y₀ y₁ y₂ y₃ y₄ h g k a₁ a₂ a₃ a₄ a₅ =
-      let e : y₃ ≡ backwardOf f (entryOf f s v) (2 * n) (forwardOf f (entryOf f s v) (2 * n) (gather (λ i. vectorAt b (o i)) 0 n)) =
-      a₃ ∙ ap (backwardOf f (entryOf f s v) (2 * n)) (a₂ ∙ ap (forwardOf f (entryOf f s v) (2 * n)) (a₁ ∙ mix-whole 2 n _ y₀ g)) in
+      let e : y₃ ≡ backwardOf f (look f s v) (2 * n) (forwardOf f (look f s v) (2 * n) (gather (λ i. vectorAt b (o i)) 0 n)) =
+      a₃ ∙ ap (backwardOf f (look f s v) (2 * n)) (a₂ ∙ ap (forwardOf f (look f s v) (2 * n)) (a₁ ∙ mix-whole 2 n _ y₀ g)) in
       ap (λ (t : List Float). left x₁ t) (a₅ ∙ mix-whole 2 n _ y₃ k) ∙ ap (λ (t : List Float). left t (gather (λ k. zeroOf) 0 n)) (a₄ ∙ mix-whole 2 n _ x₀ h ∙ ap (λ (t : List Float). gather (λ i. vectorAt t (p i)) 0 n) e)

@@ -10,7 +10,7 @@ use Rattle.law.specs.Loop.{over}
 use Rattle.law.specs.Gather.{gather}
 use Rattle.plane.specs.Plane.{_⊕_, _⊖_, _⊗_, _⊘_, zero32, zeroOf}
 use Rattle.plane.specs.Lent.{vectorAt}
-use Rattle.fits.specs.Cells.{place}
+use Rattle.fits.specs.Cells.{look}
 
 -- the sum of L(i,k)·y(k) over the columns before the diagonal, from +0.0
 abbrev pub sumStep : (ℕ → ℕ → Float) → List Float → ℕ → ℕ → Float → Float
@@ -47,17 +47,13 @@ backwardOf f l m y = over (λ k. backStep f l (m - (k + 1))) 0 m y
 
 -- ---- the same with a plan: position i holds particle o i, particle q is at position p q, and row i lies in v from s i on
 
--- entry (i,k) of the factor that v holds
-abbrev pub entryOf : (ℕ → ℕ) → (ℕ → ℕ) → List Float → ℕ → ℕ → Float
-entryOf f s v i k = getD v (place f s i k) nan
-
 -- n parts, part i being v's part p i
 unfoldable pub permuted : ℕ → (ℕ → ℕ) → List Float → List Float
 permuted n p v = gather (λ i. vectorAt v (p i)) 0 n
 
 -- the solution by positions
 unfoldable pub placedOf : ℕ → (ℕ → ℕ) → (ℕ → ℕ) → (ℕ → ℕ) → List Float → List Float → List Float
-placedOf n o f s v b = backwardOf f (entryOf f s v) (2 * n) (forwardOf f (entryOf f s v) (2 * n) (permuted n o b))
+placedOf n o f s v b = backwardOf f (look f s v) (2 * n) (forwardOf f (look f s v) (2 * n) (permuted n o b))
 
 -- and by particles
 unfoldable pub solveOf : ℕ → (ℕ → ℕ) → (ℕ → ℕ) → (ℕ → ℕ) → (ℕ → ℕ) → List Float → List Float → List Float

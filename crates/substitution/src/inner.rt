@@ -6,14 +6,15 @@ ghost use lib.Ieee.{nan};
 ghost use Rattle.law.specs.Mix.{mix};
 ghost use Rattle.plane.specs.Lent.{vectorAt};
 ghost use Rattle.shape.specs.Rows.{at};
+ghost use Rattle.fits.specs.Cells.{look};
 ghost use Rattle.fits.specs.Lists.{Plan};
-ghost use Rattle.substitution.specs.Solve.{entryOf, forwardBy, forwardOf, backStep, backwardOf, left, solvedOf};
+ghost use Rattle.substitution.specs.Solve.{forwardBy, forwardOf, backStep, backwardOf, left, solvedOf};
 ghost use Rattle.substitution.specs.Held.{Held, Row};
 
 // Entry i of y, from those before it; y[i] is still b's.
 fn forward_at(first: &[u32], row_start: &[u32], values: &[f32], y: &[f32], i: usize) -> f32
     requires { ⌜ Row (now first) (now «row_start») (now values) i × (i < length (now y)) ⌝ }
-    ensures { λ r. ⌜ r ≡ forwardBy (at (now (first .entry))) (entryOf (at (now (first .entry))) (at (now («row_start» .entry))) (now (values .entry))) (now (y .entry)) (getD (now (y .entry)) i nan) i ⌝ }
+    ensures { λ r. ⌜ r ≡ forwardBy (at (now (first .entry))) (look (at (now (first .entry))) (at (now («row_start» .entry))) (now (values .entry))) (now (y .entry)) (getD (now (y .entry)) i nan) i ⌝ }
 {
     let from = law::wide(first[i]);
     let start = law::wide(row_start[i]);
@@ -22,12 +23,12 @@ fn forward_at(first: &[u32], row_start: &[u32], values: &[f32], y: &[f32], i: us
     if i <= from {
         return y[i] / corner;
     }
-    (y[i] - plane::run::dot(values, start, y, from, len)) / corner
+    (y[i] - stretch::run::dot(values, start, y, from, len)) / corner
 }
 
 fn forward(m: usize, first: &[u32], row_start: &[u32], values: &[f32], y: &mut [f32])
     requires { ⌜ Held m (now first) (now «row_start») (now values) × (m ≤ length (now y)) ⌝ }
-    ensures { λ _. ⌜ now (y .exit) ≡ forwardOf (at (now (first .entry))) (entryOf (at (now (first .entry))) (at (now («row_start» .entry))) (now (values .entry))) m (now (y .entry)) ⌝ }
+    ensures { λ _. ⌜ now (y .exit) ≡ forwardOf (at (now (first .entry))) (look (at (now (first .entry))) (at (now («row_start» .entry))) (now (values .entry))) m (now (y .entry)) ⌝ }
 {
     for i in 0..m {
         y[i] = forward_at(first, row_start, values, y, i);
@@ -37,19 +38,19 @@ fn forward(m: usize, first: &[u32], row_start: &[u32], values: &[f32], y: &mut [
 // Entry i of x, and its part taken from the entries before it.
 fn back(first: &[u32], row_start: &[u32], values: &[f32], i: usize, y: &mut [f32])
     requires { ⌜ Row (now first) (now «row_start») (now values) i × (i < length (now y)) ⌝ }
-    ensures { λ _. ⌜ now (y .exit) ≡ backStep (at (now (first .entry))) (entryOf (at (now (first .entry))) (at (now («row_start» .entry))) (now (values .entry))) i (now (y .entry)) ⌝ }
+    ensures { λ _. ⌜ now (y .exit) ≡ backStep (at (now (first .entry))) (look (at (now (first .entry))) (at (now («row_start» .entry))) (now (values .entry))) i (now (y .entry)) ⌝ }
 {
     let from = law::wide(first[i]);
     let start = law::wide(row_start[i]);
     let len = i - from;
     let x = y[i] / values[start + len];
     y[i] = x;
-    plane::run::take(values, start, from, len, x, y);
+    stretch::run::take(values, start, from, len, x, y);
 }
 
 fn backward(m: usize, first: &[u32], row_start: &[u32], values: &[f32], y: &mut [f32])
     requires { ⌜ Held m (now first) (now «row_start») (now values) × (m ≤ length (now y)) ⌝ }
-    ensures { λ _. ⌜ now (y .exit) ≡ backwardOf (at (now (first .entry))) (entryOf (at (now (first .entry))) (at (now («row_start» .entry))) (now (values .entry))) m (now (y .entry)) ⌝ }
+    ensures { λ _. ⌜ now (y .exit) ≡ backwardOf (at (now (first .entry))) (look (at (now (first .entry))) (at (now («row_start» .entry))) (now (values .entry))) m (now (y .entry)) ⌝ }
 {
     for k in 0..m {
         back(first, row_start, values, m - (k + 1), y);
@@ -64,7 +65,7 @@ fn gather(n: usize, which: &[u32], v: &[f32], out: &mut [f32])
 {
     for i in 0..n {
         let j = law::wide(which[i]);
-        plane::inner::set_vector(out, i, plane::inner::vector_at(v, j));
+        vectors::inner::set_vector(out, i, vectors::inner::vector_at(v, j));
     }
 }
 
@@ -90,5 +91,5 @@ pub fn solve(
     forward(m, first, row_start, values, scratch);
     backward(m, first, row_start, values, scratch);
     gather(n, inv_perm, scratch, x);
-    plane::inner::clear(n, scratch);
+    vectors::inner::clear(n, scratch);
 }

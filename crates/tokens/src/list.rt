@@ -89,6 +89,23 @@ fn copy_reals(items: &[u32], to: &mut [f32]) -> usize
     n
 }
 
+// What is no byte becomes the largest.
+fn byte(item: u32) -> u8 {
+    if item < 255 { item as u8 } else { 255 }
+}
+
+fn copy_bytes(items: &[u32], to: &mut [u8]) -> usize
+    ensures { λ r. ⌜ Front r (now (to .exit)) ⌝ }
+{
+    let n = least(items.len(), to.len());
+    let mut i = 0usize;
+    while i < n {
+        to[i] = byte(items[i]);
+        i += 1;
+    }
+    n
+}
+
 // The items of the list at `at` into a buffer's front, and how many they are.
 pub fn wholes(w: &[u32], at: usize, to: &mut [u32]) -> usize
     ensures { λ r. ⌜ Front r (now (to .exit)) ⌝ }
@@ -104,4 +121,12 @@ pub fn reals(w: &[u32], at: usize, to: &mut [f32]) -> usize
     let a = start(w, at);
     let b = stop(w, a);
     copy_reals(&w[a..b], to)
+}
+
+pub fn bytes(w: &[u32], at: usize, to: &mut [u8]) -> usize
+    ensures { λ r. ⌜ Front r (now (to .exit)) ⌝ }
+{
+    let a = start(w, at);
+    let b = stop(w, a);
+    copy_bytes(&w[a..b], to)
 }

@@ -2,6 +2,7 @@
 ghost use Prim.Native.Nat.{_≤_};
 ghost use Rattle.tokens.specs.Room.{room};
 use crate::print::Room;
+use crate::print::float;
 use crate::print::whole;
 use crate::print::word;
 
@@ -17,4 +18,13 @@ pub fn done(number: u64, out: &mut Room) -> usize
 {
     let at = word(b"done", out, 0);
     whole(number, out, at)
+}
+
+// The row of a factor that failed, and its pivot.
+pub fn failed(row: usize, pivot: f32, out: &mut Room) -> usize
+    ensures { λ r. ⌜ r ≤ room ⌝ }
+{
+    let at = word(b"failed", out, 0);
+    let to = whole(row as u64, out, at);
+    float(pivot, out, to)
 }

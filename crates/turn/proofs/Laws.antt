@@ -5,7 +5,7 @@ use mathlib.Core.List.{List}
 use Prim.Native.Nat.{ℕ}
 use lib.Ieee.{Float, lt, le}
 use Rattle.plane.specs.Plane.{_⊘_, zero32}
-use Rattle.plane.specs.Whole.{dotAll}
+use Rattle.vectors.specs.Whole.{dotAll}
 use Rattle.turn.specs.declared.Turned.the-variants.{Bent, Done, Onward}
 use Rattle.turn.specs.Vectors.{Map, advanced, retreated, redirected, lacking}
 use Rattle.turn.specs.Solve.{State, after, turn, freshOf}

@@ -5,7 +5,7 @@ use mathlib.Core.List.{List, [], _∷_, map}
 use lib.Ieee.{Float, binary32, ofBits, toBits, add, sub, mul, div, neg, lt, le, eq, ne}
 use Rattle.law.specs.Loop.{over, fold}
 use Rattle.law.specs.Gather.{gather}
-use Rattle.plane.specs.Whole.{dotAll}
+use Rattle.vectors.specs.Whole.{dotAll}
 use Rattle.values.specs.Product.{slotStep, rowSum, productAt}
 use Rattle.turn.specs.Vectors.{product, preconditioned, advanced, retreated, redirected, lacking, scaled, zeros}
 use Rattle.turn.specs.Solve.{Ended, numberOf, countOf, valuesOf, turn, run, rescaled, finished, freshOf, launched, started, solved}

@@ -7,7 +7,7 @@ use mathlib.Core.List.{List, [], _∷_}
 use lib.ListN.{length}
 use lib.Ieee.{Float, lt, le, eq, ne}
 use Rattle.plane.specs.Plane.{_⊗_, _⊘_, zero32, one32}
-use Rattle.plane.specs.Whole.{dotAll}
+use Rattle.vectors.specs.Whole.{dotAll}
 use Rattle.turn.specs.declared.Turned.{Turned}
 use Rattle.turn.specs.declared.Turned.the-variants.{Bent, Done, Onward}
 use Rattle.turn.specs.declared.Outcome.{Outcome}

@@ -11,7 +11,7 @@ use Rattle.law.specs.Gather.{gather}
 use Rattle.law.specs.Mix.{mix, mix-of, mix-whole}
 use Rattle.plane.specs.Plane.{zeroOf}
 use Rattle.plane.specs.Lent.{vectorAt}
-use Rattle.plane.specs.Whole.{advancedAt, retreatedAt, redirectedAt, lackAt, scaledAt, preconditionedAt}
+use Rattle.vectors.specs.Whole.{advancedAt, retreatedAt, redirectedAt, lackAt, scaledAt, preconditionedAt}
 use Rattle.shape.specs.Rows.{at, Rows}
 use Rattle.values.specs.Product.{productAt}
 

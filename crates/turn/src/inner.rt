@@ -1,7 +1,7 @@
 // Steps over lent vectors of exactly 2n floats. What these require, the doors have tested.
 use crate::Turned;
 use plane::Block;
-use plane::inner::dot_all;
+use vectors::inner::dot_all;
 ghost use mathlib.Core.Path.{_≡_};
 ghost use Prim.Native.Nat.{_*_, _≤_};
 ghost use lib.ListN.{length};
@@ -25,7 +25,7 @@ pub fn fresh(
     ensures { λ _. ⌜ now (residual .exit) ≡ freshOf n (product n (now («row_offsets» .entry)) (now (cols .entry)) (now (blocks .entry))) (now (b .entry)) (now (x .entry)) ⌝ }
 {
     values::inner::mul(n, row_offsets, cols, blocks, x, residual);
-    plane::inner::lack(n, b, residual);
+    vectors::inner::lack(n, b, residual);
 }
 
 // One turn.
@@ -51,15 +51,15 @@ pub fn iterate(
     let denominator = dot_all(n, direction, a_direction);
     if denominator > 0.0 {
         let alpha = rz / denominator;
-        plane::inner::advance(n, alpha, direction, x);
-        plane::inner::retreat(n, alpha, a_direction, residual);
+        vectors::inner::advance(n, alpha, direction, x);
+        vectors::inner::retreat(n, alpha, a_direction, residual);
         let norm = dot_all(n, residual, residual);
         if norm <= threshold {
             return Turned::Done(norm);
         }
-        plane::inner::precondition(n, preconditioner, residual, z);
+        vectors::inner::precondition(n, preconditioner, residual, z);
         let next = dot_all(n, residual, z);
-        plane::inner::redirect(n, next / rz, z, direction);
+        vectors::inner::redirect(n, next / rz, z, direction);
         return Turned::Onward {
             norm: norm,
             rz: next,
@@ -86,10 +86,10 @@ pub fn update_preconditioner(n: usize, diagonal: &[u32], blocks: &[f32], precond
 {
     for r in 0..n {
         let slot = law::wide(diagonal[r]);
-        plane::inner::set_block(
+        vectors::inner::set_block(
             preconditioner,
             r,
-            inverse_or_identity(plane::inner::block_at(blocks, slot)),
+            inverse_or_identity(vectors::inner::block_at(blocks, slot)),
         );
     }
 }

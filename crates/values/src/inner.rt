@@ -19,8 +19,8 @@ fn add_slot(cols: &[u32], blocks: &[f32], x: &[f32], k: usize, sum: Vector) -> V
     plane::add(
         sum,
         plane::times(
-            plane::inner::block_at(blocks, k),
-            plane::inner::vector_at(x, c),
+            vectors::inner::block_at(blocks, k),
+            vectors::inner::vector_at(x, c),
         ),
     )
 }
@@ -48,7 +48,7 @@ pub fn mul(n: usize, row_offsets: &[u32], cols: &[u32], blocks: &[f32], x: &[f32
     let mut start = law::wide(row_offsets[0]);
     for r in 0..n {
         let end = law::wide(row_offsets[r + 1]);
-        plane::inner::set_vector(out, r, row_sum(cols, blocks, x, start, end));
+        vectors::inner::set_vector(out, r, row_sum(cols, blocks, x, start, end));
         start = end;
     }
 }
@@ -59,7 +59,7 @@ pub fn clear_values(m: usize, blocks: &mut [f32])
     ensures { λ _. ⌜ now (blocks .exit) ≡ mix 4 m (λ k. flat zeroBlock) (now (blocks .entry)) ⌝ }
 {
     for k in 0..m {
-        plane::inner::set_block(blocks, k, [[0.0, 0.0], [0.0, 0.0]]);
+        vectors::inner::set_block(blocks, k, [[0.0, 0.0], [0.0, 0.0]]);
     }
 }
 
@@ -70,8 +70,8 @@ fn clear_cross(row_offsets: &[u32], cols: &[u32], row: u32, k: usize, blocks: &m
 {
     let c = law::wide(cols[k]);
     let mirror = law::wide(shape::index::block_index(row_offsets, cols, c, row));
-    plane::inner::set_block(blocks, k, [[0.0, 0.0], [0.0, 0.0]]);
-    plane::inner::set_block(blocks, mirror, [[0.0, 0.0], [0.0, 0.0]]);
+    vectors::inner::set_block(blocks, k, [[0.0, 0.0], [0.0, 0.0]]);
+    vectors::inner::set_block(blocks, mirror, [[0.0, 0.0], [0.0, 0.0]]);
 }
 
 // A row pinned: identity on its diagonal, zero in the rest of the row and in its mirrors.
@@ -95,5 +95,5 @@ pub fn make_dirichlet(
         clear_cross(row_offsets, cols, col, k, blocks);
     }
     let slot = law::wide(diagonal[row]);
-    plane::inner::set_block(blocks, slot, [[1.0, 0.0], [0.0, 1.0]]);
+    vectors::inner::set_block(blocks, slot, [[1.0, 0.0], [0.0, 1.0]]);
 }

@@ -1,5 +1,5 @@
 -- `step::factorize_step_matrix` meets its contract. Assumes nothing.
-use mathlib.Core.Path.{sym, _∙_}
+use mathlib.Core.Path.{sym, _∙_, refl}
 use Rattle.law.specs.Promise.{refuses, accepts}
 use Rattle.step.specs.Marking.{door, ready}
 use borrow.Author.Needs.{needs}
@@ -10,10 +10,10 @@ marking-requires : tie.Need-marking-requires
 marking-requires c κs = search needs
 
 same-length : tie.Need-same-length
-same-length c = search needs
+same-length c = refl
 
 same-length-2 : tie.Need-same-length-2
-same-length-2 c = search needs
+same-length-2 c = refl
 
 returns : tie.Need-returns
 returns c = refuses door _ _ (c .before .marking .ensures) (c .if1 .taken)
@@ -24,10 +24,10 @@ mark-requires c κs =
     ready _ (sym (k .before .marking .ensures) ∙ k .if1 .left)
 
 same-length-3 : tie.Need-same-length-3
-same-length-3 c = search needs
+same-length-3 c = c .before .before .before .before .mark .kept .1 .1 .1 .1 .1 .1 .1 .1 .1 .1 .0
 
 same-length-4 : tie.Need-same-length-4
-same-length-4 c = search needs
+same-length-4 c = c .before .before .before .before .mark .kept .1 .1 .1 .1 .1 .1 .1 .1 .1 .1 .1 .0
 
 returns-2 : tie.Need-returns-2
 returns-2 c =

@@ -1,7 +1,7 @@
 -- `boundary::conjugate::bracket_conjugate_gradient` meets its contract. Assumes nothing.
 use mathlib.Core.Path.{refl}
 use borrow.Author.Needs.{needs}
-use Rattle.boundary.specs.Told.{told}
+use Rattle.numbers.specs.Numbers.{told}
 use Rattle.boundary.proofs.conjugate.bracket_conjugate_gradient.Statement.{statement}
 use Rattle.boundary.proofs.conjugate.bracket_conjugate_gradient.Tie as tie
 
@@ -15,23 +15,23 @@ solved-number-requires : tie.Need-solved-number-requires
 solved-number-requires c κs = search needs
 
 same-length : tie.Need-same-length
-same-length c = search needs
+same-length c = c .before .before .before .before .before .before .before .before .before .before .before .before .before .before .solve .kept .1 .1 .1 .1 .1 .1 .1 .1 .1 .0
 
 same-length-2 : tie.Need-same-length-2
-same-length-2 c = search needs
+same-length-2 c = c .before .before .before .before .before .before .before .before .before .before .before .before .before .before .solve .kept .1 .1 .1 .1 .1 .1 .1 .1 .1 .1 .0
 
 same-length-3 : tie.Need-same-length-3
-same-length-3 c = search needs
+same-length-3 c = c .before .before .before .before .before .before .before .before .before .before .before .before .before .before .solve .kept .1 .1 .1 .1 .1 .1 .1 .1 .1 .1 .1 .0
 
 same-length-4 : tie.Need-same-length-4
-same-length-4 c = search needs
+same-length-4 c = c .before .before .before .before .before .before .before .before .before .before .before .before .before .before .solve .kept .1 .1 .1 .1 .1 .1 .1 .1 .1 .1 .1 .1 .0
 
 same-length-5 : tie.Need-same-length-5
-same-length-5 c = search needs
+same-length-5 c = c .before .before .before .before .before .before .before .before .before .before .before .before .before .before .solve .kept .1 .1 .1 .1 .1 .1 .1 .1 .1 .1 .1 .1 .1 .0
 
 returns : tie.Need-returns
 returns c =
-    told _ _ _ _ _ _ (c .before .before .before .before .before .before .before .before .before .before .before .before .before .before .solve .ensures) refl (c .solved-number .ensures) (c .before .after .ensures)
+    told _ _ _ _ _ _ _ _ _ _ (c .before .before .before .before .before .before .before .before .before .before .before .before .before .before .solve .ensures) refl (c .solved-number .ensures) (c .before .after .ensures)
 
 pub bracket-conjugate-gradient-spec : {M : Type 1} → statement M
 bracket-conjugate-gradient-spec =

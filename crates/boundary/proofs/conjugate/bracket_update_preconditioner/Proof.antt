@@ -1,7 +1,7 @@
 -- `boundary::conjugate::bracket_update_preconditioner` meets its contract. Assumes nothing.
 use mathlib.Core.Path.{refl}
 use borrow.Author.Needs.{needs}
-use Rattle.boundary.specs.Numbers.{numbered}
+use Rattle.numbers.specs.Numbers.{numbered}
 use Rattle.boundary.proofs.conjugate.bracket_update_preconditioner.Statement.{statement}
 use Rattle.boundary.proofs.conjugate.bracket_update_preconditioner.Tie as tie
 

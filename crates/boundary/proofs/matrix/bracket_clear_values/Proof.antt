@@ -1,12 +1,12 @@
 -- `boundary::matrix::bracket_clear_values` meets its contract. Assumes nothing.
 use mathlib.Core.Path.{refl}
-use Rattle.boundary.specs.Numbers.{numbered}
+use Rattle.numbers.specs.Numbers.{numbered}
 use borrow.Author.Needs.{needs}
 use Rattle.boundary.proofs.matrix.bracket_clear_values.Statement.{statement}
 use Rattle.boundary.proofs.matrix.bracket_clear_values.Tie as tie
 use Rattle.boundary.proofs.matrix.bracket_clear_values.Reads as reads
 use Rattle.boundary.proofs.matrix.bracket_clear_values.Lts as lts
-use Rattle.boundary.proofs.matrix.ran_number.Reads as ran-number-reads
+use Rattle.numbers.proofs.built.ran_number.Reads as ran-number-reads
 use Rattle.pattern.proofs.clear_values.Reads as clear-values-reads
 
 -- src/matrix.rt:125:16

@@ -4,8 +4,8 @@ use Rattle.boundary.proofs.matrix.bracket_diagonal_index.Statement.{sta
 use Rattle.boundary.proofs.matrix.bracket_diagonal_index.Tie as tie
 use Rattle.boundary.proofs.matrix.bracket_diagonal_index.Reads as reads
 use Rattle.boundary.proofs.matrix.bracket_diagonal_index.Lts as lts
-use Rattle.boundary.proofs.matrix.found_number.Reads as found-number-reads
-use Rattle.boundary.proofs.matrix.found_slot.Reads as found-slot-reads
+use Rattle.numbers.proofs.built.found_number.Reads as found-number-reads
+use Rattle.numbers.proofs.built.found_slot.Reads as found-slot-reads
 use Rattle.pattern.proofs.diagonal_index.Reads as diagonal-index-reads
 
 -- src/matrix.rt:110:9

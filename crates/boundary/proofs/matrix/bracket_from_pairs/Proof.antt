@@ -1,12 +1,12 @@
 -- `boundary::matrix::bracket_from_pairs` meets its contract. Assumes nothing.
 use mathlib.Core.Path.{refl}
-use Rattle.boundary.specs.Numbers.{numbered}
+use Rattle.numbers.specs.Numbers.{numbered}
 use borrow.Author.Needs.{needs}
 use Rattle.boundary.proofs.matrix.bracket_from_pairs.Statement.{statement}
 use Rattle.boundary.proofs.matrix.bracket_from_pairs.Tie as tie
 use Rattle.boundary.proofs.matrix.bracket_from_pairs.Reads as reads
 use Rattle.boundary.proofs.matrix.bracket_from_pairs.Lts as lts
-use Rattle.boundary.proofs.matrix.built_number.Reads as built-number-reads
+use Rattle.numbers.proofs.built.built_number.Reads as built-number-reads
 use Rattle.pattern.proofs.from_pairs.Reads as from-pairs-reads
 
 -- src/matrix.rt:64:18

@@ -1,12 +1,12 @@
 -- `boundary::matrix::bracket_make_dirichlet` meets its contract. Assumes nothing.
 use mathlib.Core.Path.{refl}
-use Rattle.boundary.specs.Numbers.{numbered}
+use Rattle.numbers.specs.Numbers.{numbered}
 use borrow.Author.Needs.{needs}
 use Rattle.boundary.proofs.matrix.bracket_make_dirichlet.Statement.{statement}
 use Rattle.boundary.proofs.matrix.bracket_make_dirichlet.Tie as tie
 use Rattle.boundary.proofs.matrix.bracket_make_dirichlet.Reads as reads
 use Rattle.boundary.proofs.matrix.bracket_make_dirichlet.Lts as lts
-use Rattle.boundary.proofs.matrix.ran_number.Reads as ran-number-reads
+use Rattle.numbers.proofs.built.ran_number.Reads as ran-number-reads
 use Rattle.pattern.proofs.make_dirichlet.Reads as make-dirichlet-reads
 
 -- src/matrix.rt:154:16

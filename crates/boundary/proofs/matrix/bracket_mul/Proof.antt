@@ -1,12 +1,12 @@
 -- `boundary::matrix::bracket_mul` meets its contract. Assumes nothing.
 use mathlib.Core.Path.{refl}
-use Rattle.boundary.specs.Numbers.{numbered}
+use Rattle.numbers.specs.Numbers.{numbered}
 use borrow.Author.Needs.{needs}
 use Rattle.boundary.proofs.matrix.bracket_mul.Statement.{statement}
 use Rattle.boundary.proofs.matrix.bracket_mul.Tie as tie
 use Rattle.boundary.proofs.matrix.bracket_mul.Reads as reads
 use Rattle.boundary.proofs.matrix.bracket_mul.Lts as lts
-use Rattle.boundary.proofs.matrix.ran_number.Reads as ran-number-reads
+use Rattle.numbers.proofs.built.ran_number.Reads as ran-number-reads
 use Rattle.pattern.proofs.mul.Reads as mul-reads
 
 -- src/matrix.rt:140:16

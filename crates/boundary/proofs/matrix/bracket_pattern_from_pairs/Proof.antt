@@ -1,12 +1,12 @@
 -- `boundary::matrix::bracket_pattern_from_pairs` meets its contract. Assumes nothing.
 use mathlib.Core.Path.{refl}
-use Rattle.boundary.specs.Numbers.{numbered}
+use Rattle.numbers.specs.Numbers.{numbered}
 use borrow.Author.Needs.{needs}
 use Rattle.boundary.proofs.matrix.bracket_pattern_from_pairs.Statement.{statement}
 use Rattle.boundary.proofs.matrix.bracket_pattern_from_pairs.Tie as tie
 use Rattle.boundary.proofs.matrix.bracket_pattern_from_pairs.Reads as reads
 use Rattle.boundary.proofs.matrix.bracket_pattern_from_pairs.Lts as lts
-use Rattle.boundary.proofs.matrix.built_number.Reads as built-number-reads
+use Rattle.numbers.proofs.built.built_number.Reads as built-number-reads
 use Rattle.pattern.proofs.pattern_from_pairs.Reads as pattern-from-pairs-reads
 
 -- src/matrix.rt:79:18
@@ -19,19 +19,19 @@ built-number-requires c κs = search needs
 
 -- src/matrix.rt:67:1
 same-length : tie.Need-same-length
-same-length c = search needs
+same-length c = c .before .before .before .before .before .before .before .before .before .pattern-from-pairs .kept .1 .1 .1 .0
 
 -- src/matrix.rt:67:1
 same-length-2 : tie.Need-same-length-2
-same-length-2 c = search needs
+same-length-2 c = c .before .before .before .before .before .before .before .before .before .pattern-from-pairs .kept .1 .1 .1 .1 .0
 
 -- src/matrix.rt:67:1
 same-length-3 : tie.Need-same-length-3
-same-length-3 c = search needs
+same-length-3 c = c .before .before .before .before .before .before .before .before .before .pattern-from-pairs .kept .1 .1 .1 .1 .1 .0
 
 -- src/matrix.rt:67:1
 same-length-4 : tie.Need-same-length-4
-same-length-4 c = search needs
+same-length-4 c = c .before .before .before .before .before .before .before .before .before .pattern-from-pairs .kept .1 .1 .1 .1 .1 .1 .0
 
 -- src/matrix.rt:67:1
 returns : tie.Need-returns

@@ -1,5 +1,7 @@
 -- `boundary::solver::bracket_factorize` meets its contract. Assumes nothing.
-use Rattle.boundary.specs.Direct.{told}
+use mathlib.Core.Path.{refl}
+use Rattle.numbers.specs.Numbers.{told}
+use Rattle.numbers.specs.Direct.{same-places}
 use borrow.Author.Needs.{needs}
 use Rattle.boundary.proofs.solver.bracket_factorize.Statement.{statement}
 use Rattle.boundary.proofs.solver.bracket_factorize.Tie as tie
@@ -27,7 +29,7 @@ returns c =
     let p = c .before in
     let w = p .before in
     let h = w .before .before in
-    told _ _ _ _ _ _ _ _ (h .before .before .before .before .factorize .ensures) (c .factored-number .ensures) (h .factored-how .ensures) (w .failed-row .ensures) (p .failed-pivot .ensures)
+    told _ _ _ _ _ _ _ _ _ _ (h .before .before .before .before .factorize .ensures) refl (c .factored-number .ensures) (same-places _ _ _ _ _ _ (h .factored-how .ensures) (w .failed-row .ensures) (p .failed-pivot .ensures))
 
 pub bracket-factorize-spec : {M : Type 1} → statement M
 bracket-factorize-spec =

@@ -1,6 +1,6 @@
 -- `boundary::solver::bracket_solve` meets its contract. Assumes nothing.
 use mathlib.Core.Path.{refl}
-use Rattle.boundary.specs.Numbers.{numbered}
+use Rattle.numbers.specs.Numbers.{numbered}
 use borrow.Author.Needs.{needs}
 use Rattle.boundary.proofs.solver.bracket_solve.Statement.{statement}
 use Rattle.boundary.proofs.solver.bracket_solve.Tie as tie

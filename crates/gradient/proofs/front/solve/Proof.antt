@@ -45,19 +45,19 @@ solve-requires c κs =
     (p .matrix, (parts-sized _ p, p .b))
 
 same-length : tie.Need-same-length
-same-length c = search needs
+same-length c = c .before .before .before .before .before .before .before .before .before .x .given .1
 
 same-length-2 : tie.Need-same-length-2
-same-length-2 c = search needs
+same-length-2 c = c .before .before .before .before .before .before .before .residual .given .1
 
 same-length-3 : tie.Need-same-length-3
-same-length-3 c = search needs
+same-length-3 c = c .before .before .before .before .before .direction .given .1
 
 same-length-4 : tie.Need-same-length-4
-same-length-4 c = search needs
+same-length-4 c = c .before .before .before .a-direction .given .1
 
 same-length-5 : tie.Need-same-length-5
-same-length-5 c = search needs
+same-length-5 c = c .before .z .given .1
 
 returns : tie.Need-returns
 returns c = whole-is _ _ _ _ _ _ _ (c .before .before .before .before .before .before .before .before .before .before .solve .ensures)

@@ -8,8 +8,8 @@ use mathlib.Core.List.{List, _++_}
 use mathlib.Core.Bool.{true}
 use lib.ListN.{length, getD, take, drop}
 use borrow.Author.Needs.{needs}
-use Rattle.order.specs.Marks.{openOf}
-use Rattle.order.proofs.Filling.{openTo, wanted, openTo-all, Appended, append-none, append-yes, append-no, append-room}
+use Rattle.ordering.specs.Marks.{openOf}
+use Rattle.ordering.proofs.Filling.{openTo, wanted, openTo-all, Appended, append-none, append-yes, append-no, append-room}
 use Rattle.order.proofs.place.append_open.Statement.{statement}
 use Rattle.order.proofs.place.append_open.Tie as tie
 

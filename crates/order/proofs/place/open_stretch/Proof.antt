@@ -2,7 +2,7 @@
 use native.Mathlib.Omega.{arith}
 use lib.ListN.{length, take}
 use borrow.Author.Needs.{needs}
-use Rattle.order.proofs.Visiting.{below-in}
+use Rattle.ordering.proofs.Visiting.{below-in}
 use Rattle.order.proofs.Standing.{stay, some-free, start-below, begin}
 use Rattle.order.proofs.place.open_stretch.Statement.{statement}
 use Rattle.order.proofs.place.open_stretch.Tie as tie

@@ -5,10 +5,10 @@ use native.Mathlib.Omega.{arith}
 use mathlib.Core.Path.{_≡_, refl, sym, _∙_, subst}
 use lib.ListN.{length}
 use borrow.Author.Needs.{needs}
-use Rattle.order.specs.Order.{neighbours, startAfter, fresh, placing}
-use Rattle.order.specs.Keys.{Below}
-use Rattle.order.specs.Marks.{Stands}
-use Rattle.order.proofs.Exploring.{rows-at, cols-below}
+use Rattle.ordering.specs.Order.{neighbours, startAfter, fresh, placing}
+use Rattle.ordering.specs.Keys.{Below}
+use Rattle.ordering.specs.Marks.{Stands}
+use Rattle.search.proofs.Exploring.{rows-at, cols-below}
 use Rattle.order.proofs.Standing.{none-stand, open-asks, open-gives, who-below, room, visited-stands, whole}
 use Rattle.order.proofs.place.place_all.Statement.{statement}
 use Rattle.order.proofs.place.place_all.Tie as tie

@@ -1,7 +1,7 @@
 -- `order::place::visit` meets its contract. Assumes nothing.
 use lib.ListN.{length}
 use borrow.Author.Needs.{needs}
-use Rattle.order.proofs.Visiting.{sort-below, put, mark-below, done}
+use Rattle.ordering.proofs.Visiting.{sort-below, put, mark-below, done}
 use Rattle.order.proofs.place.visit.Statement.{statement}
 use Rattle.order.proofs.place.visit.Tie as tie
 

@@ -2,9 +2,8 @@
 use borrow.Author.Tests.{le-leb, lt-leb}
 use Rattle.law.specs.Refusal.{goes-on, stops}
 use Rattle.law.specs.Truth.{refused, passed}
-use Rattle.shape.specs.Given.{held}
-use Rattle.step.specs.Dense.{when-laid}
-use Rattle.response.specs.Entries.{has-names}
+use Rattle.step.specs.Dense.{roomy}
+use Rattle.gains.specs.Entries.{has-names}
 use Rattle.response.specs.Responding.{refusals}
 use borrow.Author.Needs.{needs}
 use Rattle.response.proofs.refuse.responding.Statement.{statement}
@@ -22,8 +21,11 @@ returns-2 c =
     goes-on _ _ _ _ (le-leb _ _ (e1 .if1 .left))
     (stops _ _ _ (lt-leb _ _ (c .if2 .taken)))
 
-pattern-room-requires : tie.Need-pattern-room-requires
-pattern-room-requires c κs = search needs
+mul-dense : tie.Need-mul-dense
+mul-dense c = search needs
+
+room-requires : tie.Need-room-requires
+room-requires c κs = search needs
 
 returns-3 : tie.Need-returns-3
 unfolding refusals
@@ -32,11 +34,10 @@ returns-3 c =
     let e1 = e2 .before in
     goes-on _ _ _ _ (le-leb _ _ (e1 .if1 .left))
     (goes-on _ _ _ _ (le-leb _ _ (e2 .if2 .left))
-    (stops _ _ _ (refused _ _ (c .before .pattern-room .ensures) (c .if3 .taken))))
+    (stops _ _ _ (refused _ _ (c .before .room .ensures) (c .if3 .taken))))
 
-vectors-room-requires : tie.Need-vectors-room-requires
-vectors-room-requires c κs =
-    (c .before .before .before .if1 .left, held _ _ _ _ (passed _ _ (c .before .pattern-room .ensures) (c .if3 .left)) .places)
+entries-room-requires : tie.Need-entries-room-requires
+entries-room-requires c κs = search needs
 
 returns-4 : tie.Need-returns-4
 unfolding refusals
@@ -46,14 +47,11 @@ returns-4 c =
     let e1 = e2 .before in
     goes-on _ _ _ _ (le-leb _ _ (e1 .if1 .left))
     (goes-on _ _ _ _ (le-leb _ _ (e2 .if2 .left))
-    (goes-on _ _ _ _ (passed _ _ (e3 .before .pattern-room .ensures) (e3 .if3 .left))
-    (stops _ _ _ (refused _ _ (c .before .vectors-room .ensures) (c .if4 .taken)))))
+    (goes-on _ _ _ _ (passed _ _ (e3 .before .room .ensures) (e3 .if3 .left))
+    (stops _ _ _ (refused _ _ (c .before .entries-room .ensures) (c .if4 .taken)))))
 
-mul-dense : tie.Need-mul-dense
-mul-dense c = search needs
-
-plan-room-requires : tie.Need-plan-room-requires
-plan-room-requires c κs = search needs
+all-below-requires : tie.Need-all-below-requires
+all-below-requires c κs = has-names _ _ _ _ _ (passed _ _ (c .before .entries-room .ensures) (c .if4 .left))
 
 returns-5 : tie.Need-returns-5
 unfolding refusals
@@ -64,101 +62,29 @@ returns-5 c =
     let e1 = e2 .before in
     goes-on _ _ _ _ (le-leb _ _ (e1 .if1 .left))
     (goes-on _ _ _ _ (le-leb _ _ (e2 .if2 .left))
-    (goes-on _ _ _ _ (passed _ _ (e3 .before .pattern-room .ensures) (e3 .if3 .left))
-    (goes-on _ _ _ _ (passed _ _ (e4 .before .vectors-room .ensures) (e4 .if4 .left))
-    (stops _ _ _ (refused _ _ (c .before .plan-room .ensures) (c .if5 .taken))))))
+    (goes-on _ _ _ _ (passed _ _ (e3 .before .room .ensures) (e3 .if3 .left))
+    (goes-on _ _ _ _ (passed _ _ (e4 .before .entries-room .ensures) (e4 .if4 .left))
+    (stops _ _ _ (refused _ _ (c .before .all-below .ensures) (c .if5 .taken))))))
 
-scratch-room-requires : tie.Need-scratch-room-requires
-scratch-room-requires c κs = search needs
+later-requires : tie.Need-later-requires
+later-requires c κs =
+    let e3 = c .before .before .before .before in
+    roomy _ _ _ _ _ _ _ _ _ _ _ _ _ _ _ _ _ _ _ (e3 .before .before .before .if1 .left) (passed _ _ (e3 .before .room .ensures) (e3 .if3 .left))
 
 returns-6 : tie.Need-returns-6
 unfolding refusals
 returns-6 c =
-    let e5 = c .before .before in
+    let e5 = c .before in
     let e4 = e5 .before .before in
     let e3 = e4 .before .before in
     let e2 = e3 .before .before in
     let e1 = e2 .before in
     goes-on _ _ _ _ (le-leb _ _ (e1 .if1 .left))
     (goes-on _ _ _ _ (le-leb _ _ (e2 .if2 .left))
-    (goes-on _ _ _ _ (passed _ _ (e3 .before .pattern-room .ensures) (e3 .if3 .left))
-    (goes-on _ _ _ _ (passed _ _ (e4 .before .vectors-room .ensures) (e4 .if4 .left))
-    (goes-on _ _ _ _ (passed _ _ (e5 .before .plan-room .ensures) (e5 .if5 .left))
-    (stops _ _ _ (refused _ _ (c .before .scratch-room .ensures) (c .if6 .taken)))))))
-
-entries-room-requires : tie.Need-entries-room-requires
-entries-room-requires c κs = search needs
-
-returns-7 : tie.Need-returns-7
-unfolding refusals
-returns-7 c =
-    let e6 = c .before .before in
-    let e5 = e6 .before .before in
-    let e4 = e5 .before .before in
-    let e3 = e4 .before .before in
-    let e2 = e3 .before .before in
-    let e1 = e2 .before in
-    goes-on _ _ _ _ (le-leb _ _ (e1 .if1 .left))
-    (goes-on _ _ _ _ (le-leb _ _ (e2 .if2 .left))
-    (goes-on _ _ _ _ (passed _ _ (e3 .before .pattern-room .ensures) (e3 .if3 .left))
-    (goes-on _ _ _ _ (passed _ _ (e4 .before .vectors-room .ensures) (e4 .if4 .left))
-    (goes-on _ _ _ _ (passed _ _ (e5 .before .plan-room .ensures) (e5 .if5 .left))
-    (goes-on _ _ _ _ (passed _ _ (e6 .before .scratch-room .ensures) (e6 .if6 .left))
-    (stops _ _ _ (refused _ _ (c .before .entries-room .ensures) (c .if7 .taken))))))))
-
-all-below-requires : tie.Need-all-below-requires
-all-below-requires c κs = has-names _ _ _ _ _ (passed _ _ (c .before .entries-room .ensures) (c .if7 .left))
-
-returns-8 : tie.Need-returns-8
-unfolding refusals
-returns-8 c =
-    let e7 = c .before .before in
-    let e6 = e7 .before .before in
-    let e5 = e6 .before .before in
-    let e4 = e5 .before .before in
-    let e3 = e4 .before .before in
-    let e2 = e3 .before .before in
-    let e1 = e2 .before in
-    goes-on _ _ _ _ (le-leb _ _ (e1 .if1 .left))
-    (goes-on _ _ _ _ (le-leb _ _ (e2 .if2 .left))
-    (goes-on _ _ _ _ (passed _ _ (e3 .before .pattern-room .ensures) (e3 .if3 .left))
-    (goes-on _ _ _ _ (passed _ _ (e4 .before .vectors-room .ensures) (e4 .if4 .left))
-    (goes-on _ _ _ _ (passed _ _ (e5 .before .plan-room .ensures) (e5 .if5 .left))
-    (goes-on _ _ _ _ (passed _ _ (e6 .before .scratch-room .ensures) (e6 .if6 .left))
-    (goes-on _ _ _ _ (passed _ _ (e7 .before .entries-room .ensures) (e7 .if7 .left))
-    (stops _ _ _ (refused _ _ (c .before .all-below .ensures) (c .if8 .taken)))))))))
-
-later-requires : tie.Need-later-requires
-later-requires c κs =
-    let e5 = c .before .before .before .before .before .before in
-    let e3 = e5 .before .before .before .before in
-    let few = e3 .before .before .before .if1 .left in
-    record {
-      few = few;
-      room = passed _ _ (e3 .before .pattern-room .ensures) (e3 .if3 .left);
-      laid = when-laid _ _ _ _ _ _ _ few (passed _ _ (e5 .before .plan-room .ensures) (e5 .if5 .left));
-    }
-
-returns-9 : tie.Need-returns-9
-unfolding refusals
-returns-9 c =
-    let e8 = c .before in
-    let e7 = e8 .before .before in
-    let e6 = e7 .before .before in
-    let e5 = e6 .before .before in
-    let e4 = e5 .before .before in
-    let e3 = e4 .before .before in
-    let e2 = e3 .before .before in
-    let e1 = e2 .before in
-    goes-on _ _ _ _ (le-leb _ _ (e1 .if1 .left))
-    (goes-on _ _ _ _ (le-leb _ _ (e2 .if2 .left))
-    (goes-on _ _ _ _ (passed _ _ (e3 .before .pattern-room .ensures) (e3 .if3 .left))
-    (goes-on _ _ _ _ (passed _ _ (e4 .before .vectors-room .ensures) (e4 .if4 .left))
-    (goes-on _ _ _ _ (passed _ _ (e5 .before .plan-room .ensures) (e5 .if5 .left))
-    (goes-on _ _ _ _ (passed _ _ (e6 .before .scratch-room .ensures) (e6 .if6 .left))
-    (goes-on _ _ _ _ (passed _ _ (e7 .before .entries-room .ensures) (e7 .if7 .left))
-    (goes-on _ _ _ _ (passed _ _ (e8 .before .all-below .ensures) (e8 .if8 .left))
-    (c .later .ensures))))))))
+    (goes-on _ _ _ _ (passed _ _ (e3 .before .room .ensures) (e3 .if3 .left))
+    (goes-on _ _ _ _ (passed _ _ (e4 .before .entries-room .ensures) (e4 .if4 .left))
+    (goes-on _ _ _ _ (passed _ _ (e5 .before .all-below .ensures) (e5 .if5 .left))
+    (c .later .ensures)))))
 
 pub responding-spec : {M : Type 1} → statement M
 responding-spec =
@@ -166,18 +92,12 @@ responding-spec =
     (tie.spec
     returns
     returns-2
-    pattern-room-requires
-    returns-3
-    vectors-room-requires
-    returns-4
     mul-dense
-    plan-room-requires
-    returns-5
-    scratch-room-requires
-    returns-6
+    room-requires
+    returns-3
     entries-room-requires
-    returns-7
+    returns-4
     all-below-requires
-    returns-8
+    returns-5
     later-requires
-    returns-9)
+    returns-6)

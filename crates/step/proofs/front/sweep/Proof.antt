@@ -1,11 +1,12 @@
 -- `step::front::sweep` meets its contract. Assumes nothing.
+use native.Mathlib.Omega.{arith}
 use Rattle.step.specs.Dense.{sweeps, spares}
 use borrow.Author.Needs.{needs}
 use Rattle.step.proofs.front.sweep.Statement.{statement}
 use Rattle.step.proofs.front.sweep.Tie as tie
 
 clear-requires : tie.Need-clear-requires
-clear-requires c κs = c .before .before .before .pre (c .before .if1 .taken)
+clear-requires c κs = omega (arith, c .before .before .before .pre (c .before .if1 .taken))
 
 same-length : tie.Need-same-length
 same-length c = search needs

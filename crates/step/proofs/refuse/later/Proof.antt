@@ -1,81 +1,30 @@
--- `step::refuse::later` meets its contract: a phase for each test. Assumes nothing.
+-- `step::refuse::later` meets its contract. Assumes nothing.
 use Rattle.law.specs.Refusal.{goes-on, stops, ends}
 use Rattle.law.specs.Truth.{refused, passed}
-use Rattle.shape.specs.Rows.{rows-of}
-use Rattle.shape.specs.Given.{held, pattern}
-use Rattle.step.specs.Dense.{later}
+use Rattle.step.specs.Dense.{ends-early, by-settings}
 use borrow.Author.Needs.{needs}
 use Rattle.step.proofs.refuse.later.Statement.{statement}
 use Rattle.step.proofs.refuse.later.Tie as tie
 
-pattern-formed-requires : tie.Need-pattern-formed-requires
-pattern-formed-requires c κs = held _ _ _ _ (c .before .before .before .before .before .before .before .pre .room)
+structure-requires : tie.Need-structure-requires
+structure-requires c κs = search needs
 
 returns : tie.Need-returns
-unfolding later
-returns c =
-    stops _ _ _ (refused _ _ (c .before .pattern-formed .ensures) (c .if1 .taken))
-
-plan-fits-requires : tie.Need-plan-fits-requires
-plan-fits-requires c κs =
-    let p = c .before .before .before .before .before .before .before .before .before .pre in
-    (rows-of _ _ _ _ (pattern _ _ _ _ (p .few) (p .room) (passed _ _ (c .before .pattern-formed .ensures) (c .if1 .left))), p .laid)
-
-returns-2 : tie.Need-returns-2
-unfolding later
-returns-2 c =
-    let e1 = c .before .before in
-    goes-on _ _ _ _ (passed _ _ (e1 .before .pattern-formed .ensures) (e1 .if1 .left))
-    (stops _ _ _ (refused _ _ (c .before .plan-fits .ensures) (c .if2 .taken)))
-
-plan-short-requires : tie.Need-plan-short-requires
-plan-short-requires c κs = search needs
-
-returns-3 : tie.Need-returns-3
-unfolding later
-returns-3 c =
-    let e2 = c .before .before in
-    let e1 = e2 .before .before in
-    goes-on _ _ _ _ (passed _ _ (e1 .before .pattern-formed .ensures) (e1 .if1 .left))
-    (goes-on _ _ _ _ (passed _ _ (e2 .before .plan-fits .ensures) (e2 .if2 .left))
-    (stops _ _ _ (refused _ _ (c .before .plan-short .ensures) (c .if3 .taken))))
+returns c = ends-early _ _ _ _ _ _ _ _ _ _ _ _ (c .before .structure .ensures) (c .if1 .taken)
 
 settings-ok-requires : tie.Need-settings-ok-requires
 settings-ok-requires c κs = search needs
 
-returns-4 : tie.Need-returns-4
-unfolding later
-returns-4 c =
-    let e3 = c .before .before in
-    let e2 = e3 .before .before in
-    let e1 = e2 .before .before in
-    goes-on _ _ _ _ (passed _ _ (e1 .before .pattern-formed .ensures) (e1 .if1 .left))
-    (goes-on _ _ _ _ (passed _ _ (e2 .before .plan-fits .ensures) (e2 .if2 .left))
-    (goes-on _ _ _ _ (passed _ _ (e3 .before .plan-short .ensures) (e3 .if3 .left))
-    (stops _ _ _ (refused _ _ (c .before .settings-ok .ensures) (c .if4 .taken)))))
+returns-2 : tie.Need-returns-2
+returns-2 c =
+    let e1 = c .before .before in
+    by-settings _ _ _ _ _ _ _ _ _ _ _ _ (e1 .before .structure .ensures) _ (e1 .if1 .left) (stops _ _ _ (refused _ _ (c .before .settings-ok .ensures) (c .if2 .taken)))
 
-returns-5 : tie.Need-returns-5
-unfolding later
-returns-5 c =
-    let e3 = c .before .before in
-    let e2 = e3 .before .before in
-    let e1 = e2 .before .before in
-    goes-on _ _ _ _ (passed _ _ (e1 .before .pattern-formed .ensures) (e1 .if1 .left))
-    (goes-on _ _ _ _ (passed _ _ (e2 .before .plan-fits .ensures) (e2 .if2 .left))
-    (goes-on _ _ _ _ (passed _ _ (e3 .before .plan-short .ensures) (e3 .if3 .left))
-    (goes-on _ _ _ _ (passed _ _ (c .before .settings-ok .ensures) (c .if4 .left))
-    ends)))
+returns-3 : tie.Need-returns-3
+returns-3 c =
+    let e1 = c .before .before in
+    by-settings _ _ _ _ _ _ _ _ _ _ _ _ (e1 .before .structure .ensures) _ (e1 .if1 .left) (goes-on _ _ _ _ (passed _ _ (c .before .settings-ok .ensures) (c .if2 .left)) ends)
 
 pub later-spec : {M : Type 1} → statement M
 later-spec =
-    tie.close
-    (tie.spec
-    pattern-formed-requires
-    returns
-    plan-fits-requires
-    returns-2
-    plan-short-requires
-    returns-3
-    settings-ok-requires
-    returns-4
-    returns-5)
+    tie.close (tie.spec structure-requires returns settings-ok-requires returns-2 returns-3)

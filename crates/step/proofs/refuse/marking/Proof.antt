@@ -1,9 +1,8 @@
 -- `step::refuse::marking` meets its contract: a phase for each test. Assumes nothing.
 use borrow.Author.Tests.{le-leb, lt-leb}
-use Rattle.law.specs.Refusal.{goes-on, stops, ends}
+use Rattle.law.specs.Refusal.{goes-on, stops}
 use Rattle.law.specs.Truth.{refused, passed}
-use Rattle.shape.specs.Rows.{rows-of}
-use Rattle.shape.specs.Given.{held, pattern}
+use Rattle.shape.specs.Given.{held}
 use Rattle.step.specs.Dense.{when-laid}
 use Rattle.step.specs.Marking.{refusals}
 use borrow.Author.Needs.{needs}
@@ -55,15 +54,20 @@ returns-4 c =
     (goes-on _ _ _ _ (passed _ _ (e3 .before .inverses-room .ensures) (e3 .if3 .left))
     (stops _ _ _ (refused _ _ (c .before .plan-room .ensures) (c .if4 .taken)))))
 
-pattern-formed-requires : tie.Need-pattern-formed-requires
-pattern-formed-requires c κs =
+structure-requires : tie.Need-structure-requires
+structure-requires c κs =
     let e2 = c .before .before .before .before in
-    held _ _ _ _ (passed _ _ (e2 .before .pattern-room .ensures) (e2 .if2 .left))
+    let few = e2 .before .before .if1 .left in
+    record {
+      few = few;
+      room = passed _ _ (e2 .before .pattern-room .ensures) (e2 .if2 .left);
+      laid = when-laid _ _ _ _ _ _ _ few (passed _ _ (c .before .plan-room .ensures) (c .if4 .left));
+    }
 
 returns-5 : tie.Need-returns-5
 unfolding refusals
 returns-5 c =
-    let e4 = c .before .before in
+    let e4 = c .before in
     let e3 = e4 .before .before in
     let e2 = e3 .before .before in
     let e1 = e2 .before .before in
@@ -71,69 +75,7 @@ returns-5 c =
     (goes-on _ _ _ _ (passed _ _ (e2 .before .pattern-room .ensures) (e2 .if2 .left))
     (goes-on _ _ _ _ (passed _ _ (e3 .before .inverses-room .ensures) (e3 .if3 .left))
     (goes-on _ _ _ _ (passed _ _ (e4 .before .plan-room .ensures) (e4 .if4 .left))
-    (stops _ _ _ (refused _ _ (c .before .pattern-formed .ensures) (c .if5 .taken))))))
-
-plan-fits-requires : tie.Need-plan-fits-requires
-plan-fits-requires c κs =
-    let e4 = c .before .before in
-    let e2 = e4 .before .before .before .before in
-    let few = e2 .before .before .if1 .left in
-    (rows-of _ _ _ _ (pattern _ _ _ _ few (passed _ _ (e2 .before .pattern-room .ensures) (e2 .if2 .left)) (passed _ _ (c .before .pattern-formed .ensures) (c .if5 .left))), when-laid _ _ _ _ _ _ _ few (passed _ _ (e4 .before .plan-room .ensures) (e4 .if4 .left)))
-
-returns-6 : tie.Need-returns-6
-unfolding refusals
-returns-6 c =
-    let e5 = c .before .before in
-    let e4 = e5 .before .before in
-    let e3 = e4 .before .before in
-    let e2 = e3 .before .before in
-    let e1 = e2 .before .before in
-    goes-on _ _ _ _ (le-leb _ _ (e1 .if1 .left))
-    (goes-on _ _ _ _ (passed _ _ (e2 .before .pattern-room .ensures) (e2 .if2 .left))
-    (goes-on _ _ _ _ (passed _ _ (e3 .before .inverses-room .ensures) (e3 .if3 .left))
-    (goes-on _ _ _ _ (passed _ _ (e4 .before .plan-room .ensures) (e4 .if4 .left))
-    (goes-on _ _ _ _ (passed _ _ (e5 .before .pattern-formed .ensures) (e5 .if5 .left))
-    (stops _ _ _ (refused _ _ (c .before .plan-fits .ensures) (c .if6 .taken)))))))
-
-plan-short-requires : tie.Need-plan-short-requires
-plan-short-requires c κs =
-    let e4 = c .before .before .before .before in
-    when-laid _ _ _ _ _ _ _ (e4 .before .before .before .before .before .before .if1 .left) (passed _ _ (e4 .before .plan-room .ensures) (e4 .if4 .left))
-
-returns-7 : tie.Need-returns-7
-unfolding refusals
-returns-7 c =
-    let e6 = c .before .before in
-    let e5 = e6 .before .before in
-    let e4 = e5 .before .before in
-    let e3 = e4 .before .before in
-    let e2 = e3 .before .before in
-    let e1 = e2 .before .before in
-    goes-on _ _ _ _ (le-leb _ _ (e1 .if1 .left))
-    (goes-on _ _ _ _ (passed _ _ (e2 .before .pattern-room .ensures) (e2 .if2 .left))
-    (goes-on _ _ _ _ (passed _ _ (e3 .before .inverses-room .ensures) (e3 .if3 .left))
-    (goes-on _ _ _ _ (passed _ _ (e4 .before .plan-room .ensures) (e4 .if4 .left))
-    (goes-on _ _ _ _ (passed _ _ (e5 .before .pattern-formed .ensures) (e5 .if5 .left))
-    (goes-on _ _ _ _ (passed _ _ (e6 .before .plan-fits .ensures) (e6 .if6 .left))
-    (stops _ _ _ (refused _ _ (c .before .plan-short .ensures) (c .if7 .taken))))))))
-
-returns-8 : tie.Need-returns-8
-unfolding refusals
-returns-8 c =
-    let e6 = c .before .before in
-    let e5 = e6 .before .before in
-    let e4 = e5 .before .before in
-    let e3 = e4 .before .before in
-    let e2 = e3 .before .before in
-    let e1 = e2 .before .before in
-    goes-on _ _ _ _ (le-leb _ _ (e1 .if1 .left))
-    (goes-on _ _ _ _ (passed _ _ (e2 .before .pattern-room .ensures) (e2 .if2 .left))
-    (goes-on _ _ _ _ (passed _ _ (e3 .before .inverses-room .ensures) (e3 .if3 .left))
-    (goes-on _ _ _ _ (passed _ _ (e4 .before .plan-room .ensures) (e4 .if4 .left))
-    (goes-on _ _ _ _ (passed _ _ (e5 .before .pattern-formed .ensures) (e5 .if5 .left))
-    (goes-on _ _ _ _ (passed _ _ (e6 .before .plan-fits .ensures) (e6 .if6 .left))
-    (goes-on _ _ _ _ (passed _ _ (c .before .plan-short .ensures) (c .if7 .left))
-    ends))))))
+    (c .structure .ensures))))
 
 pub marking-spec : {M : Type 1} → statement M
 marking-spec =
@@ -147,10 +89,5 @@ marking-spec =
     mul-dense
     plan-room-requires
     returns-4
-    pattern-formed-requires
-    returns-5
-    plan-fits-requires
-    returns-6
-    plan-short-requires
-    returns-7
-    returns-8)
+    structure-requires
+    returns-5)

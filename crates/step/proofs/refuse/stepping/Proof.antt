@@ -2,8 +2,7 @@
 use borrow.Author.Tests.{le-leb, lt-leb}
 use Rattle.law.specs.Refusal.{goes-on, stops}
 use Rattle.law.specs.Truth.{refused, passed}
-use Rattle.shape.specs.Given.{held}
-use Rattle.step.specs.Dense.{when-laid}
+use Rattle.step.specs.Dense.{roomy}
 use Rattle.step.specs.Stepping.{refusals}
 use borrow.Author.Needs.{needs}
 use Rattle.step.proofs.refuse.stepping.Statement.{statement}
@@ -14,101 +13,38 @@ unfolding refusals
 returns c =
     stops _ _ _ (lt-leb _ _ (c .if1 .taken))
 
-pattern-room-requires : tie.Need-pattern-room-requires
-pattern-room-requires c κs = search needs
+mul-dense : tie.Need-mul-dense
+mul-dense c = search needs
+
+room-requires : tie.Need-room-requires
+room-requires c κs = search needs
 
 returns-2 : tie.Need-returns-2
 unfolding refusals
 returns-2 c =
     let e1 = c .before .before in
     goes-on _ _ _ _ (le-leb _ _ (e1 .if1 .left))
-    (stops _ _ _ (refused _ _ (c .before .pattern-room .ensures) (c .if2 .taken)))
+    (stops _ _ _ (refused _ _ (c .before .room .ensures) (c .if2 .taken)))
 
-vectors-room-requires : tie.Need-vectors-room-requires
-vectors-room-requires c κs =
-    (c .before .before .if1 .left, held _ _ _ _ (passed _ _ (c .before .pattern-room .ensures) (c .if2 .left)) .places)
+later-requires : tie.Need-later-requires
+later-requires c κs = roomy _ _ _ _ _ _ _ _ _ _ _ _ _ _ _ _ _ _ _ (c .before .before .if1 .left) (passed _ _ (c .before .room .ensures) (c .if2 .left))
 
 returns-3 : tie.Need-returns-3
 unfolding refusals
 returns-3 c =
-    let e2 = c .before .before in
+    let e2 = c .before in
     let e1 = e2 .before .before in
     goes-on _ _ _ _ (le-leb _ _ (e1 .if1 .left))
-    (goes-on _ _ _ _ (passed _ _ (e2 .before .pattern-room .ensures) (e2 .if2 .left))
-    (stops _ _ _ (refused _ _ (c .before .vectors-room .ensures) (c .if3 .taken))))
-
-mul-dense : tie.Need-mul-dense
-mul-dense c = search needs
-
-plan-room-requires : tie.Need-plan-room-requires
-plan-room-requires c κs = search needs
-
-returns-4 : tie.Need-returns-4
-unfolding refusals
-returns-4 c =
-    let e3 = c .before .before in
-    let e2 = e3 .before .before in
-    let e1 = e2 .before .before in
-    goes-on _ _ _ _ (le-leb _ _ (e1 .if1 .left))
-    (goes-on _ _ _ _ (passed _ _ (e2 .before .pattern-room .ensures) (e2 .if2 .left))
-    (goes-on _ _ _ _ (passed _ _ (e3 .before .vectors-room .ensures) (e3 .if3 .left))
-    (stops _ _ _ (refused _ _ (c .before .plan-room .ensures) (c .if4 .taken)))))
-
-scratch-room-requires : tie.Need-scratch-room-requires
-scratch-room-requires c κs = search needs
-
-returns-5 : tie.Need-returns-5
-unfolding refusals
-returns-5 c =
-    let e4 = c .before .before in
-    let e3 = e4 .before .before in
-    let e2 = e3 .before .before in
-    let e1 = e2 .before .before in
-    goes-on _ _ _ _ (le-leb _ _ (e1 .if1 .left))
-    (goes-on _ _ _ _ (passed _ _ (e2 .before .pattern-room .ensures) (e2 .if2 .left))
-    (goes-on _ _ _ _ (passed _ _ (e3 .before .vectors-room .ensures) (e3 .if3 .left))
-    (goes-on _ _ _ _ (passed _ _ (e4 .before .plan-room .ensures) (e4 .if4 .left))
-    (stops _ _ _ (refused _ _ (c .before .scratch-room .ensures) (c .if5 .taken))))))
-
-later-requires : tie.Need-later-requires
-later-requires c κs =
-    let e4 = c .before .before in
-    let e2 = e4 .before .before .before .before in
-    let few = e2 .before .before .if1 .left in
-    record {
-      few = few;
-      room = passed _ _ (e2 .before .pattern-room .ensures) (e2 .if2 .left);
-      laid = when-laid _ _ _ _ _ _ _ few (passed _ _ (e4 .before .plan-room .ensures) (e4 .if4 .left));
-    }
-
-returns-6 : tie.Need-returns-6
-unfolding refusals
-returns-6 c =
-    let e5 = c .before in
-    let e4 = e5 .before .before in
-    let e3 = e4 .before .before in
-    let e2 = e3 .before .before in
-    let e1 = e2 .before .before in
-    goes-on _ _ _ _ (le-leb _ _ (e1 .if1 .left))
-    (goes-on _ _ _ _ (passed _ _ (e2 .before .pattern-room .ensures) (e2 .if2 .left))
-    (goes-on _ _ _ _ (passed _ _ (e3 .before .vectors-room .ensures) (e3 .if3 .left))
-    (goes-on _ _ _ _ (passed _ _ (e4 .before .plan-room .ensures) (e4 .if4 .left))
-    (goes-on _ _ _ _ (passed _ _ (e5 .before .scratch-room .ensures) (e5 .if5 .left))
-    (c .later .ensures)))))
+    (goes-on _ _ _ _ (passed _ _ (e2 .before .room .ensures) (e2 .if2 .left))
+    (c .later .ensures))
 
 pub stepping-spec : {M : Type 1} → statement M
 stepping-spec =
     tie.close
     (tie.spec
     returns
-    pattern-room-requires
-    returns-2
-    vectors-room-requires
-    returns-3
     mul-dense
-    plan-room-requires
-    returns-4
-    scratch-room-requires
-    returns-5
+    room-requires
+    returns-2
     later-requires
-    returns-6)
+    returns-3)

@@ -5,14 +5,15 @@ use native.Mathlib.Omega.{arith}
 use lib.ListN.{length}
 use Rattle.law.specs.Loop.{over, over-none, over-turn, over-done}
 use Rattle.shape.specs.Rows.{at}
-use Rattle.substitution.specs.Solve.{entryOf, backStep, backwardOf}
+use Rattle.fits.specs.Cells.{look}
+use Rattle.substitution.specs.Solve.{backStep, backwardOf}
 use Rattle.substitution.specs.Held.{row-of}
 use borrow.Author.Needs.{needs}
 use Rattle.substitution.proofs.inner.backward.Statement.{statement}
 use Rattle.substitution.proofs.inner.backward.Tie as tie
 
 abbrev Inv-loop : tie.InvT-loop
-Inv-loop m first row-start values y₀ k₀ y k = (k ≤ m) × (length y ≡ length y₀) × (y ≡ over (λ j. backStep (at first) (entryOf (at first) (at row-start) values) (m - (j + 1))) 0 k y₀)
+Inv-loop m first row-start values y₀ k₀ y k = (k ≤ m) × (length y ≡ length y₀) × (y ≡ over (λ j. backStep (at first) (look (at first) (at row-start) values) (m - (j + 1))) 0 k y₀)
 
 abbrev μ-loop : tie.MeasureT-loop
 μ-loop m first row-start values y₀ k₀ y k = m - k

@@ -5,14 +5,15 @@ use native.Mathlib.Omega.{arith}
 use lib.ListN.{length, length-set}
 use Rattle.law.specs.Loop.{over, over-none, over-turn, over-done}
 use Rattle.shape.specs.Rows.{at}
-use Rattle.substitution.specs.Solve.{entryOf, forwardStep, forwardOf}
+use Rattle.fits.specs.Cells.{look}
+use Rattle.substitution.specs.Solve.{forwardStep, forwardOf}
 use Rattle.substitution.specs.Held.{row-of}
 use borrow.Author.Needs.{needs}
 use Rattle.substitution.proofs.inner.forward.Statement.{statement}
 use Rattle.substitution.proofs.inner.forward.Tie as tie
 
 abbrev Inv-loop : tie.InvT-loop
-Inv-loop m first row-start values y₀ i₀ y i = (i ≤ m) × (length y ≡ length y₀) × (y ≡ over (forwardStep (at first) (entryOf (at first) (at row-start) values)) 0 i y₀)
+Inv-loop m first row-start values y₀ i₀ y i = (i ≤ m) × (length y ≡ length y₀) × (y ≡ over (forwardStep (at first) (look (at first) (at row-start) values)) 0 i y₀)
 
 abbrev μ-loop : tie.MeasureT-loop
 μ-loop m first row-start values y₀ i₀ y i = m - i

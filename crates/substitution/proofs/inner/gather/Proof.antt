@@ -6,7 +6,7 @@ use denote.Ref.{now}
 use lib.ListN.{length}
 use Rattle.law.specs.Mix.{mix, mix-none}
 use Rattle.plane.specs.Lent.{vectorAt}
-use Rattle.plane.specs.Whole.{part-stored}
+use Rattle.vectors.specs.Whole.{part-stored}
 use Rattle.shape.specs.Rows.{at}
 use borrow.Author.Needs.{needs}
 use Rattle.substitution.proofs.inner.gather.Statement.{statement}

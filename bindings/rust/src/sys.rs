@@ -1,0 +1,107 @@
+//! The C functions (include/bracket.h), and all of the unsafe code. A slice is a pointer and a length in C. Rust's own rules give
+//! what the functions ask of their caller: valid pointers, no list shared with one that is written, a bool of 0 or 1.
+
+/// Makes of each signature a safe function of the same name. Parameters are read one by one into what the safe function takes,
+/// what the C function takes, and what is handed over.
+macro_rules! calls {
+    ($(fn $name:ident($($params:tt)*) -> $answer:ty;)*) => {
+        $(calls!(@ $name $answer [] [] [] $($params)*,);)*
+    };
+    (@ $name:ident $answer:ty [$($safe:tt)*] [$($c:tt)*] [$($handed:tt)*] $p:ident: &[$t:ty], $($rest:tt)*) => {
+        calls!(@ $name $answer [$($safe)* $p: &[$t],] [$($c)* _: *const $t, _: usize,] [$($handed)* $p.as_ptr(), $p.len(),] $($rest)*);
+    };
+    (@ $name:ident $answer:ty [$($safe:tt)*] [$($c:tt)*] [$($handed:tt)*] $p:ident: &mut [$t:ty], $($rest:tt)*) => {
+        calls!(@ $name $answer [$($safe)* $p: &mut [$t],] [$($c)* _: *mut $t, _: usize,] [$($handed)* $p.as_mut_ptr(), $p.len(),] $($rest)*);
+    };
+    (@ $name:ident $answer:ty [$($safe:tt)*] [$($c:tt)*] [$($handed:tt)*] $p:ident: $t:ty, $($rest:tt)*) => {
+        calls!(@ $name $answer [$($safe)* $p: $t,] [$($c)* _: $t,] [$($handed)* $p,] $($rest)*);
+    };
+    (@ $name:ident $answer:ty [$($safe:tt)*] [$($c:tt)*] [$($handed:tt)*]) => {
+        #[allow(clippy::too_many_arguments)]
+        pub fn $name($($safe)*) -> $answer {
+            extern "C" {
+                fn $name($($c)*) -> $answer;
+            }
+            unsafe { $name($($handed)*) }
+        }
+    };
+}
+
+calls! {
+    fn bracket_root(x: f32) -> f32;
+    fn bracket_dot(ux: f32, uy: f32, vx: f32, vy: f32) -> f32;
+    fn bracket_determinant(c0x: f32, c0y: f32, c1x: f32, c1y: f32) -> f32;
+    fn bracket_times(c0x: f32, c0y: f32, c1x: f32, c1y: f32, vx: f32, vy: f32, out: &mut [f32]) -> u8;
+    fn bracket_inverse(c0x: f32, c0y: f32, c1x: f32, c1y: f32, out: &mut [f32]) -> u8;
+
+    fn bracket_from_pairs(
+        n: usize, count: usize, pairs: &[u32],
+        row_offsets: &mut [u32], cols: &mut [u32], diagonal: &mut [u32], blocks: &mut [f32], work: &mut [u32]
+    ) -> u8;
+    fn bracket_block_index(
+        n: usize, row_offsets: &[u32], cols: &[u32], diagonal: &[u32], row: usize, col: u32, slot: &mut u32
+    ) -> u8;
+    fn bracket_diagonal_index(
+        n: usize, row_offsets: &[u32], cols: &[u32], diagonal: &[u32], row: usize, slot: &mut u32
+    ) -> u8;
+    fn bracket_clear_values(
+        n: usize, row_offsets: &[u32], cols: &[u32], diagonal: &[u32], blocks: &mut [f32]
+    ) -> u8;
+    fn bracket_mul(
+        n: usize, row_offsets: &[u32], cols: &[u32], diagonal: &[u32], blocks: &[f32], x: &[f32], out: &mut [f32]
+    ) -> u8;
+    fn bracket_make_dirichlet(
+        n: usize, row_offsets: &[u32], cols: &[u32], diagonal: &[u32], row: usize, blocks: &mut [f32]
+    ) -> u8;
+
+    fn bracket_plan(
+        n: usize, row_offsets: &[u32], cols: &[u32], diagonal: &[u32],
+        perm: &mut [u32], inv_perm: &mut [u32], first: &mut [u32], row_start: &mut [u32],
+        degrees: &mut [u32], placed: &mut [u32], mark: &mut [u32], level: &mut [u32], queue: &mut [u32]
+    ) -> u8;
+    fn bracket_factorize(
+        n: usize, row_offsets: &[u32], cols: &[u32], diagonal: &[u32], blocks: &[f32],
+        perm: &[u32], inv_perm: &[u32], first: &[u32], row_start: &[u32], values: &mut [f32],
+        how: &mut u32, row: &mut usize, pivot: &mut f32
+    ) -> u8;
+    fn bracket_solve(
+        n: usize, perm: &[u32], inv_perm: &[u32], first: &[u32], row_start: &[u32], values: &[f32],
+        b: &[f32], x: &mut [f32], scratch: &mut [f32]
+    ) -> u8;
+
+    fn bracket_update_preconditioner(
+        n: usize, row_offsets: &[u32], cols: &[u32], diagonal: &[u32], blocks: &[f32], preconditioner: &mut [f32]
+    ) -> u8;
+    fn bracket_conjugate_gradient(
+        n: usize, row_offsets: &[u32], cols: &[u32], diagonal: &[u32], blocks: &[f32], preconditioner: &[f32], b: &[f32],
+        tolerance: f32, max_iterations: usize,
+        x: &mut [f32], residual: &mut [f32], direction: &mut [f32], a_direction: &mut [f32], z: &mut [f32],
+        how: &mut u32, count: &mut usize, norm: &mut f32, denominator: &mut f32
+    ) -> u8;
+
+    fn bracket_factorize_step_matrix(
+        n: usize, row_offsets: &[u32], cols: &[u32], diagonal: &[u32], blocks: &[f32],
+        perm: &[u32], inv_perm: &[u32], first: &[u32], row_start: &[u32],
+        max_dense_dofs: usize, values: &mut [f32], preconditioner: &mut [f32],
+        how: &mut u32, row: &mut usize, pivot: &mut f32
+    ) -> u8;
+    fn bracket_solve_step(
+        n: usize, row_offsets: &[u32], cols: &[u32], diagonal: &[u32], blocks: &[f32],
+        perm: &[u32], inv_perm: &[u32], first: &[u32], row_start: &[u32],
+        values: &[f32], factored: bool, preconditioner: &[f32], b: &[f32],
+        tolerance: f32, max_iterations: usize, max_dense_dofs: usize,
+        x: &mut [f32], scratch: &mut [f32], residual: &mut [f32], direction: &mut [f32], a_direction: &mut [f32], z: &mut [f32],
+        counts: &mut [u32; 7],
+        how: &mut u32, count: &mut usize, norm: &mut f32, denominator: &mut f32
+    ) -> u8;
+    fn bracket_response_into(
+        n: usize, row_offsets: &[u32], cols: &[u32], diagonal: &[u32], blocks: &[f32],
+        perm: &[u32], inv_perm: &[u32], first: &[u32], row_start: &[u32],
+        values: &[f32], factored: bool, preconditioner: &[f32],
+        tolerance: f32, max_iterations: usize, max_dense_dofs: usize,
+        pinned: &[u8], entries: usize, particles: &[u32], gradients: &[f32],
+        out: &mut [f32], rhs: &mut [f32], scratch: &mut [f32], residual: &mut [f32], direction: &mut [f32], a_direction: &mut [f32], z: &mut [f32],
+        counts: &mut [u32; 7],
+        gain: &mut f32, how: &mut u32, count: &mut usize, norm: &mut f32, denominator: &mut f32
+    ) -> u8;
+}

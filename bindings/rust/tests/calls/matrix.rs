@@ -1,0 +1,146 @@
+//! The block matrix: as the source builds and fills it, and what is refused.
+
+use crate::springs::Bracket;
+use bracket::{BlockMatrix, Refusal, Vector, IDENTITY};
+
+const BRACKET: Bracket = Bracket {
+    columns: 4,
+    rows: 3,
+    mass: 1.0,
+    stiffness: 8.0,
+};
+
+fn chain(particles: u32) -> Vec<(u32, u32)> {
+    (1..particles).map(|p| (p - 1, p)).collect()
+}
+
+#[test]
+fn repeats_and_equal_pairs_add_nothing() {
+    let matrix = BlockMatrix::from_pairs(2, &[(0, 1), (1, 0), (0, 1), (1, 1)]).unwrap();
+    assert_eq!(matrix.cols(), [0, 1, 0, 1]);
+    assert_eq!(matrix.diagonal_index(0), Ok(0));
+    assert_eq!(matrix.diagonal_index(1), Ok(3));
+    assert_eq!(matrix.blocks, [[[0.0; 2]; 2]; 4]);
+}
+
+#[test]
+fn an_equal_pair_out_of_range_is_ignored_and_another_is_refused() {
+    let alone = BlockMatrix::from_pairs(2, &[]).unwrap();
+    assert_eq!(BlockMatrix::from_pairs(2, &[(9, 9)]), Ok(alone));
+    assert_eq!(
+        BlockMatrix::from_pairs(2, &[(0, 2)]),
+        Err(Refusal::OutOfRange)
+    );
+}
+
+#[test]
+fn counts_above_the_limits_are_refused() {
+    assert_eq!(
+        BlockMatrix::from_pairs(1024, &chain(1024)).map(|m| m.num_rows()),
+        Ok(1024)
+    );
+    assert_eq!(
+        BlockMatrix::from_pairs(1025, &[]),
+        Err(Refusal::TooManyParticles)
+    );
+    assert_eq!(
+        BlockMatrix::from_pairs(usize::MAX, &[]),
+        Err(Refusal::TooManyParticles)
+    );
+    assert!(BlockMatrix::from_pairs(2, &[(0, 1); 4096]).is_ok());
+    assert_eq!(
+        BlockMatrix::from_pairs(2, &[(0, 1); 4097]),
+        Err(Refusal::TooManyEntries)
+    );
+    assert_eq!(
+        BlockMatrix::from_pairs(1025, &[(0, 1); 4097]),
+        Err(Refusal::TooManyParticles)
+    );
+}
+
+#[test]
+fn an_absent_block_has_no_slot() {
+    let matrix = BlockMatrix::from_pairs(3, &chain(3)).unwrap();
+    assert_eq!(matrix.block_index(1, 2), Ok(4));
+    assert_eq!(matrix.block_index(0, 2), Ok(u32::MAX));
+    assert_eq!(matrix.block_index(0, u32::MAX), Ok(u32::MAX));
+    assert_eq!(matrix.block_index(3, 0), Err(Refusal::OutOfRange));
+    assert_eq!(matrix.diagonal_index(3), Err(Refusal::OutOfRange));
+}
+
+#[test]
+fn every_spring_is_stored_in_both_triangles() {
+    let matrix = BRACKET.free_matrix().unwrap();
+    let n = matrix.num_rows() as u32;
+    for (row, col) in (0..n).flat_map(|row| (0..n).map(move |col| (row, col))) {
+        let slots = [(row, col), (col, row)].map(|(r, c)| matrix.block_index(r, c).unwrap());
+        match slots {
+            [u32::MAX, mirror] => assert_eq!(mirror, u32::MAX),
+            slots => {
+                let [[c0, c1], mirror] = slots.map(|slot| matrix.blocks[slot as usize]);
+                assert_eq!(mirror, [[c0[0], c1[0]], [c0[1], c1[1]]]);
+            }
+        }
+    }
+}
+
+#[test]
+fn a_moved_frame_stretches_no_spring() {
+    let matrix = BRACKET.free_matrix().unwrap();
+    let shift = vec![[3.0, -2.0]; matrix.num_rows()];
+    let mut force = vec![[0.0; 2]; matrix.num_rows()];
+    matrix.mul(&shift, &mut force).unwrap();
+    for [x, y] in force {
+        assert!(
+            (x - 3.0).abs() < 1.0e-4 && (y + 2.0).abs() < 1.0e-4,
+            "({x}, {y})"
+        );
+    }
+}
+
+#[test]
+fn a_pinned_row_is_the_identity_and_the_rest_stays() {
+    let free = BRACKET.free_matrix().unwrap();
+    let mut pinned = free.clone();
+    pinned.make_dirichlet(5).unwrap();
+    for row in 0..free.num_rows() as u32 {
+        for col in 0..free.num_rows() as u32 {
+            let slot = free.block_index(row, col).unwrap();
+            if slot == u32::MAX {
+                continue;
+            }
+            let wanted = match (row, col) {
+                (5, 5) => IDENTITY,
+                (5, _) | (_, 5) => [[0.0; 2]; 2],
+                _ => free.blocks[slot as usize],
+            };
+            assert_eq!(pinned.blocks[slot as usize], wanted);
+        }
+    }
+    assert_eq!(pinned.make_dirichlet(12), Err(Refusal::OutOfRange));
+}
+
+#[test]
+fn clearing_keeps_the_pattern() {
+    let mut matrix = BRACKET.matrix().unwrap();
+    let cols = matrix.cols().to_vec();
+    matrix.clear_values().unwrap();
+    assert_eq!(matrix.cols(), cols);
+    assert!(matrix.blocks.iter().all(|&block| block == [[0.0; 2]; 2]));
+}
+
+#[test]
+fn short_lists_are_refused_and_the_rest_of_long_ones_stays() {
+    let matrix = BRACKET.matrix().unwrap();
+    let n = matrix.num_rows();
+    let x = vec![[1.0, 1.0]; n];
+    let mut out: Vec<Vector> = vec![[7.0, 7.0]; n + 1];
+    assert_eq!(matrix.mul(&x[1..], &mut out), Err(Refusal::ShortBuffer));
+    assert_eq!(matrix.mul(&x, &mut out[2..]), Err(Refusal::ShortBuffer));
+    assert_eq!(out, vec![[7.0, 7.0]; n + 1]);
+    matrix.mul(&x, &mut out).unwrap();
+    assert_eq!(out[n], [7.0, 7.0]);
+    let mut shortened = matrix.clone();
+    shortened.blocks.pop();
+    assert_eq!(shortened.clear_values(), Err(Refusal::ShortBuffer));
+}

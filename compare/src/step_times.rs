@@ -1,0 +1,56 @@
+//! Times of the step's calls on the direct route: the doors and the work behind them, beside the Rust's.
+
+use crate::inside;
+use crate::step::{made, marks};
+use crate::times::{matrix, micros};
+use oracle::blocks::vectors;
+use oracle::call::{Call, Operation};
+use oracle::draw::Draw;
+use oracle::graphs;
+use oracle::step::{entries, Step};
+use oracle::steps::direct;
+use oracle::systems::System;
+use std::hint::black_box;
+
+pub fn times(draw: &mut Draw) {
+    println!("times of the step on the direct route: door/Rust inner/Rust (Rust's microseconds)");
+    for (name, graph) in [
+        ("chain 1024", graphs::chain(1024)),
+        ("grid 32x10", graphs::grid(32, 10)),
+    ] {
+        let system = System::new(draw, &graph, 0);
+        let solved = solve(direct(draw, Operation::SolveStep, system.clone()));
+        let responded = respond(direct(draw, Operation::ResponseInto, system));
+        println!("{name}: solve_step {solved}; response_into {responded}");
+    }
+}
+
+fn beside(call: &mut Call, mut inner: impl FnMut(&mut Call, &mut [u8]), rust: f64) -> String {
+    let mut pinned = marks(call);
+    let door = micros(|| {
+        let said = made(call, &mut pinned);
+        assert_eq!((said.refused, said.ending.how), (0, 0), "by the factor");
+    });
+    let inner = micros(|| inner(call, &mut pinned));
+    format!("{:.2} {:.2} ({rust:.1})", door / rust, inner / rust)
+}
+
+fn solve(mut call: Call) -> String {
+    let n = call.n();
+    let (mut step, b) = (Step::new(&call, matrix(&call)), vectors(&call.lists[10], n));
+    let mut x = b.clone();
+    let rust = micros(|| step.solve(black_box(&b), &mut x));
+    beside(&mut call, |call, _| inside::step_route(call), rust)
+}
+
+fn respond(mut call: Call) -> String {
+    let (mut step, entries) = (Step::new(&call, matrix(&call)), entries(&call));
+    let mut out = vectors(&call.lists[13], call.n());
+    let rust = micros(|| {
+        black_box(step.respond(black_box(&entries), &mut out));
+    });
+    let inner = |call: &mut Call, pinned: &mut [u8]| {
+        black_box(inside::respond(call, pinned));
+    };
+    beside(&mut call, inner, rust)
+}

@@ -1,0 +1,4 @@
+pub mod Counts
+pub mod Marks
+pub mod Steps
+pub mod Responses

@@ -1,0 +1,91 @@
+// The step's factor. Accepted, how is 0 for a whole factor, whose mark is set, 1 for a failure, and 2 where the step is iterated; row and pivot are written by a failure alone.
+use step::Marked;
+ghost use mathlib.Core.Path.{_≡_};
+ghost use Rattle.step.specs.Marking as marking;
+ghost use Rattle.numbers.specs.Numbers.{Told};
+ghost use Rattle.numbers.specs.Direct.{places};
+ghost use Rattle.boundary_step.specs.Marks.{markedNumber, howOf, rowOf, pivotOf, placesOf};
+
+fn marked_number(m: Marked) -> u8
+    ensures { λ r. ⌜ r ≡ markedNumber m ⌝ }
+{
+    match m {
+        Marked::Refused(k) => k,
+        Marked::Direct => 0,
+        Marked::Failed { row: _, pivot: _ } => 0,
+        Marked::Iterative => 0,
+    }
+}
+
+fn marked_how(m: Marked, old: u32) -> u32
+    ensures { λ r. ⌜ r ≡ howOf m old ⌝ }
+{
+    match m {
+        Marked::Refused(_) => old,
+        Marked::Direct => 0,
+        Marked::Failed { row: _, pivot: _ } => 1,
+        Marked::Iterative => 2,
+    }
+}
+
+fn failed_row(m: Marked, old: usize) -> usize
+    ensures { λ r. ⌜ r ≡ rowOf m old ⌝ }
+{
+    match m {
+        Marked::Refused(_) => old,
+        Marked::Direct => old,
+        Marked::Failed { row, pivot: _ } => row,
+        Marked::Iterative => old,
+    }
+}
+
+fn failed_pivot(m: Marked, old: f32) -> f32
+    ensures { λ r. ⌜ r ≡ pivotOf m old ⌝ }
+{
+    match m {
+        Marked::Refused(_) => old,
+        Marked::Direct => old,
+        Marked::Failed { row: _, pivot } => pivot,
+        Marked::Iterative => old,
+    }
+}
+
+#[no_mangle]
+pub extern "C" fn bracket_factorize_step_matrix(
+    n: usize,
+    row_offsets: &[u32],
+    cols: &[u32],
+    diagonal: &[u32],
+    blocks: &[f32],
+    perm: &[u32],
+    inv_perm: &[u32],
+    first: &[u32],
+    row_start: &[u32],
+    max_dense_dofs: usize,
+    values: &mut [f32],
+    preconditioner: &mut [f32],
+    how: &mut u32,
+    row: &mut usize,
+    pivot: &mut f32,
+) -> u8
+    ensures { λ r. ⌜ Told marking.door (λ o. o .answer) markedNumber placesOf (marking.given n (now («row_offsets» .entry)) (now (cols .entry)) (now (diagonal .entry)) (now (blocks .entry)) (now (perm .entry)) (now («inv_perm» .entry)) (now (first .entry)) (now («row_start» .entry)) «max_dense_dofs» (now (values .entry)) (now (preconditioner .entry))) r (λ a. marking.left a (now (values .exit)) (now (preconditioner .exit))) (places (now (how .entry)) (now (row .entry)) (now (pivot .entry))) (places (now (how .exit)) (now (row .exit)) (now (pivot .exit))) ⌝ }
+{
+    let m = step::factorize_step_matrix(
+        n,
+        row_offsets,
+        cols,
+        diagonal,
+        blocks,
+        perm,
+        inv_perm,
+        first,
+        row_start,
+        max_dense_dofs,
+        values,
+        preconditioner,
+    );
+    *how = marked_how(m, *how);
+    *row = failed_row(m, *row);
+    *pivot = failed_pivot(m, *pivot);
+    marked_number(m)
+}

@@ -1,0 +1,2 @@
+// What follows a run that did not converge: its x rescaled.
+pub mod finish;

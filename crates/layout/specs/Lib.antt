@@ -1,0 +1,4 @@
+pub mod Listed
+pub mod Leftmost
+pub mod Starts
+pub mod Laid

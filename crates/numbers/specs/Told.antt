@@ -1,0 +1,46 @@
+-- HOW A SOLVE ENDED, over the C ABI: document 01's number of the outcome, its count and its floats, in four lent places. What an outcome doesn't carry is +0.0; a refusal leaves all four.
+use Prim.Native.Nat.{ℕ}
+use lib.Ieee.{Float}
+use Rattle.plane.specs.Plane.{zero32}
+use Rattle.turn.specs.declared.Outcome.{Outcome}
+use Rattle.turn.specs.declared.Outcome.the-variants.{Zero, Near, Converged, Curvature, Limit}
+use Rattle.turn.specs.Solve.{numberOf, countOf}
+use Rattle.gradient.specs.declared.Updated.{Updated}
+use Rattle.gradient.specs.declared.Updated.the-variants as updated
+use Rattle.gradient.specs.declared.Solved.{Solved}
+use Rattle.gradient.specs.declared.Solved.the-variants as solved
+use Rattle.numbers.specs.declared.ended.Places.{Places}
+
+abbrev pub updatedNumber : Updated → ℕ
+updatedNumber (updated.Refused k) = k
+updatedNumber updated.Done = 0
+
+abbrev pub solvedNumber : Solved → ℕ
+solvedNumber (solved.Refused k) = k
+solvedNumber (solved.Ran o) = 0
+
+abbrev pub places : ℕ → ℕ → Float → Float → Places
+places how count norm denominator = record { how = how; count = count; norm = norm; denominator = denominator }
+
+-- the squared length of the running residual
+abbrev pub normOf : Outcome → Float
+normOf (Zero count) = zero32
+normOf (Near count residual) = residual
+normOf (Converged count residual) = residual
+normOf (Curvature count residual denominator) = residual
+normOf (Limit count residual) = residual
+
+abbrev pub denominatorOf : Outcome → Float
+denominatorOf (Zero count) = zero32
+denominatorOf (Near count residual) = zero32
+denominatorOf (Converged count residual) = zero32
+denominatorOf (Curvature count residual denominator) = denominator
+denominatorOf (Limit count residual) = zero32
+
+abbrev pub toldOf : Outcome → Places
+toldOf o = places (numberOf o) (countOf o) (normOf o) (denominatorOf o)
+
+-- what the places hold after the answer, from what they held
+abbrev pub placesOf : Solved → Places → Places
+placesOf (solved.Refused k) old = old
+placesOf (solved.Ran o) old = toldOf o

@@ -1,0 +1,11 @@
+pub mod At
+pub mod Pigeon
+pub mod Lists
+pub mod Free
+pub mod Placed
+pub mod Rows
+pub mod Sorting
+pub mod Filling
+pub mod Visiting
+pub mod Choosing
+pub mod Degrees

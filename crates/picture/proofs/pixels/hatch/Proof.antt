@@ -1,0 +1,16 @@
+-- `picture::pixels::hatch` meets its contract. Assumes nothing.
+use mathlib.Core.Path.{refl}
+use Rattle.picture.specs.Pixels.{hatched}
+use borrow.Author.Needs.{needs}
+use Rattle.picture.proofs.pixels.hatch.Statement.{statement}
+use Rattle.picture.proofs.pixels.hatch.Tie as tie
+
+add-result : tie.Need-add-result
+add-result c = search needs
+
+returns : tie.Need-returns
+unfolding hatched
+returns c = refl
+
+pub hatch-spec : {M : Type 1} → statement M
+hatch-spec = tie.close (tie.spec add-result returns)

@@ -1,0 +1,4 @@
+pub mod Pixels
+pub mod Ready
+pub mod Panels
+pub mod Shown

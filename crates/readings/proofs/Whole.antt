@@ -1,0 +1,59 @@
+-- THE STARRED READINGS, computed by the definitions that the public calls' promises cite. Assumes nothing.
+use mathlib.Core.Path.{refl}
+use lib.Ieee.{ofInt, ofBits, add, sub, mul, div, neg, lt, le, eq, ne}
+use Rattle.law.specs.Loop.{fold, over}
+use Rattle.law.specs.Every.{every, some}
+use Rattle.law.specs.Gather.{gather, upTo}
+use Rattle.law.specs.Room.{enough}
+use Rattle.law.specs.Refusal.{verdict}
+use Rattle.law.specs.Promise.{outcome}
+use Rattle.root.specs.Sqrt.{sqrtOf}
+use Rattle.stretch.specs.Run.{dotRun}
+use Rattle.vectors.specs.Whole.{dotAll}
+use Rattle.shape.specs.Formed.{slotOk as columnOk, homeOk, rowOk as columnsOk, stored, mirrorsOk, startsOk as offsetsOk, wellFormed}
+use Rattle.shape.specs.Given.{patternRoom, formed}
+use Rattle.shape.specs.Made as made
+use Rattle.build.specs.Pairs.{joined, storedBy}
+use Rattle.build.specs.Build.{builtOf}
+use Rattle.pattern.specs.Building as building
+use Rattle.pattern.specs.FromPairs as frompairs
+use Rattle.ordering.specs.Order.{neighbours, reach, settle, chooseStart, fresh, placing, orderOf}
+use Rattle.ordering.specs.Envelope.{firstBlock, firstCol, rowStarts}
+use Rattle.plans.specs.Plan as plan
+use Rattle.envelope.specs.Planning as planning
+use Rattle.fits.specs.Fits.{backOk, undoOk, twinsOk, firstsOk, growOk, startsOk, plannedOk, slotOk, rowOk, insideOk, fitsOk}
+use Rattle.fits.specs.Given.{planRoom, lengthOf}
+use Rattle.factor.specs.Factor.{later, reducedOf, entryOf, entryStep, leftOf, squareStep, pivotOf, closeOf, rowOf, rowStep, factorOf}
+use Rattle.factor.specs.Load.{besideOf, cornerOf, slotInto, slotsInto, rowInto, loadOf, matrixOf}
+use Rattle.substitution.specs.Solve as substitution
+use Rattle.direct.specs.Factorizing as factorizing
+use Rattle.direct.specs.Solving as substituting
+use Rattle.values.specs.Product.{slotStep, rowSum, productAt}
+use Rattle.turn.specs.Vectors.{product, preconditioned, advanced, retreated, redirected, lacking, scaled, zeros}
+use Rattle.turn.specs.Solve.{turn, run, rescaled, finished, freshOf, launched, started, solved}
+use Rattle.turn.specs.Inverse.{orIdentity, inverseAt}
+use Rattle.gradient.specs.Settings.{settingsOk}
+use Rattle.gradient.specs.Updating as updating
+use Rattle.gradient.specs.Solving as iterating
+use Rattle.readings.specs.Starred.{Starred}
+
+pub starred : Starred
+unfolding outcome verdict enough every some over fold gather upTo building.listsRoom building.refusals building.work frompairs.valuesRoom frompairs.refusals frompairs.work builtOf storedBy joined made.startsOf made.slotsOf made.colsOf made.startOf made.slotOf made.rowOf planning.lengthFor planning.planRoom planning.early planning.refusals planning.laidOver planning.cleared planning.work planning.refuse plan.planBy plan.planOf plan.lengthOf patternRoom formed wellFormed offsetsOk columnsOk columnOk homeOk mirrorsOk stored orderOf placing fresh chooseStart settle reach neighbours rowStarts firstCol firstBlock factorizing.refusals factorizing.valuesRoom factorizing.work factorizing.stateOf substituting.refusals substituting.valuesRoom substituting.work planRoom lengthOf fitsOk insideOk rowOk slotOk plannedOk undoOk backOk firstsOk twinsOk startsOk growOk matrixOf loadOf rowInto slotsInto slotInto besideOf cornerOf factorOf rowStep rowOf closeOf pivotOf squareStep leftOf entryStep entryOf reducedOf dotRun later sqrtOf substitution.solveOf substitution.placedOf substitution.permuted substitution.backwardOf substitution.backStep substitution.takenOf substitution.forwardOf substitution.forwardStep substitution.forwardBy substitution.rowSum updating.refusals updating.inversesRoom iterating.refusals iterating.vectorsRoom iterating.solveFor iterating.work settingsOk solved started launched freshOf finished rescaled run turn product preconditioned advanced retreated redirected lacking scaled zeros orIdentity inverseAt productAt rowSum slotStep dotAll ofInt ofBits add sub mul div neg lt le eq ne
+starred = record {
+  none = refl;
+  one = refl;
+  three = refl;
+  four = refl;
+  from = refl;
+  to = refl;
+  six = refl;
+  repeats = refl;
+  ignored = refl;
+  refused = refl;
+  factor = refl;
+  gives = refl;
+  fails = refl;
+  converged = refl;
+  limit = refl;
+  curvature = refl;
+}

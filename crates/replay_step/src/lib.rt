@@ -1,0 +1,7 @@
+// The step's operations on the words of a stored case's line.
+mod ending;
+mod factor;
+pub mod operation;
+mod record;
+mod respond;
+mod solve;

@@ -1,0 +1,51 @@
+// The tally as a line's list of seven counts.
+ghost use Prim.Native.Nat.{_+_, _≤_, _<_};
+ghost use lib.ListN.{length};
+ghost use Rattle.tokens.specs.Room.{room};
+use tally::Tally;
+use tokens::list::start;
+use tokens::list::stop;
+use tokens::print::Room;
+use tokens::print::whole_list;
+
+const COUNTS: usize = 7;
+
+fn counts(c: &[u32]) -> Tally
+    requires { ⌜ 6 < length (now c) ⌝ }
+{
+    Tally {
+        direct: c[0],
+        zero: c[1],
+        near: c[2],
+        converged: c[3],
+        curvature: c[4],
+        limit: c[5],
+        refused: c[6],
+    }
+}
+
+// The record at `at`; a fresh one where the list isn't seven counts.
+pub fn read(w: &[u32], at: usize) -> Tally {
+    let s = start(w, at);
+    let e = stop(w, s);
+    if e - s < COUNTS {
+        return tally::fresh();
+    }
+    counts(&w[s..e])
+}
+
+pub fn show(t: Tally, out: &mut Room, at: usize) -> usize
+    requires { ⌜ at ≤ room ⌝ }
+    ensures { λ r. ⌜ r ≤ room ⌝ }
+{
+    let list = [
+        t.direct,
+        t.zero,
+        t.near,
+        t.converged,
+        t.curvature,
+        t.limit,
+        t.refused,
+    ];
+    whole_list(&list, out, at)
+}

@@ -1,0 +1,4 @@
+pub mod Spied
+pub mod Drawn
+pub mod Prepared
+pub mod Sketch

@@ -1,0 +1,84 @@
+// The picture program: a text as the bench program reads it, from standard input; the pattern before and after ordering as a portable bitmap, to standard output.
+use sketch::Sketched;
+ghost use mathlib.Core.Path.{_≡_};
+ghost use Prim.Native.Nat.{_*_, _≤_};
+ghost use lib.ListN.{length};
+ghost use Rattle.law.specs.Limit.{particles};
+ghost use Rattle.desk.specs.Drawn.{Sheet};
+ghost use Rattle.desk.specs.Read.{numbersRoom};
+ghost use Rattle.picture.specs.Ready.{lineRoom};
+
+mod output;
+mod planning;
+mod sketch;
+
+// By what the text came to.
+fn reply_in(
+    text: &[u8],
+    numbers: &mut [u32],
+    row_offsets: &mut [u32],
+    cols: &mut [u32],
+    diagonal: &mut [u32],
+    work: &mut [u32],
+    order: &mut [u32],
+    first: &mut [u32],
+    line: &mut [u8],
+)
+    requires { ⌜ (length (now numbers) ≡ numbersRoom) × (Sheet (now «row_offsets») (now cols) (now diagonal) (now work) (now order) × ((2 * particles ≤ length (now first)) × (lineRoom particles ≤ length (now line)))) ⌝ }
+{
+    let came = sketch::sketch(
+        text,
+        numbers,
+        row_offsets,
+        cols,
+        diagonal,
+        work,
+        order,
+        first,
+    );
+    match came {
+        Sketched::Refused(k) => output::refuse(k, line),
+        Sketched::Done(n) => {
+            let starts = n + 1;
+            let blocks = law::wide(row_offsets[n]);
+            let rows = 2 * n;
+            output::draw(
+                n,
+                &row_offsets[..starts],
+                &cols[..blocks],
+                &order[..n],
+                &first[..rows],
+                line,
+            )
+        }
+    }
+}
+
+// The lists are here, each as long as the limits ask, and nothing else.
+fn reply(text: &[u8]) {
+    let mut numbers = [0u32; 8192];
+    let mut row_offsets = [0u32; 1025];
+    let mut cols = [0u32; 9216];
+    let mut diagonal = [0u32; 1024];
+    let mut work = [0u32; 8192];
+    let mut order = [0u32; 1024];
+    let mut first = [0u32; 2048];
+    let mut line = [0u8; 4098];
+    reply_in(
+        text,
+        &mut numbers,
+        &mut row_offsets,
+        &mut cols,
+        &mut diagonal,
+        &mut work,
+        &mut order,
+        &mut first,
+        &mut line,
+    )
+}
+
+fn main() {
+    let mut text = [0u8; law::BYTES + 1];
+    let n = io::read_full(libc::STDIN_FILENO, &mut text);
+    reply(&text[..n]);
+}

@@ -1,0 +1,2 @@
+// Stretches of lent lists, float by float.
+pub mod run;

@@ -1,0 +1,2 @@
+// A view of one row of a block matrix.
+pub mod row;
