@@ -2,6 +2,4 @@
 mod ending;
 mod factor;
 pub mod operation;
-mod record;
-mod respond;
 mod solve;

@@ -3,8 +3,8 @@
 ghost use Prim.Native.Nat.{_≤_};
 ghost use Rattle.tokens.specs.Room.{room};
 use crate::factor;
-use crate::respond;
 use crate::solve;
+use replay_response::respond;
 use tokens::print::Room;
 
 pub fn operate(name: &[u8], w: &[u32], out: &mut Room) -> usize
