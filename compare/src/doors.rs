@@ -4,180 +4,44 @@ use crate::{endings, step};
 use oracle::call::Operation::*;
 use oracle::call::{Call, Left};
 
-extern "C" {
+declared! {
     fn bracket_from_pairs(
-        n: usize,
-        count: usize,
-        pairs: *const u32,
-        pairs_len: usize,
-        row_offsets: *mut u32,
-        row_offsets_len: usize,
-        cols: *mut u32,
-        cols_len: usize,
-        diagonal: *mut u32,
-        diagonal_len: usize,
-        blocks: *mut f32,
-        blocks_len: usize,
-        work: *mut u32,
-        work_len: usize,
+        n: usize, count: usize, pairs: &[u32], row_offsets: &mut [u32], cols: &mut [u32], diagonal: &mut [u32],
+        blocks: &mut [f32], work: &mut [u32]
     ) -> u8;
     fn bracket_pattern_from_pairs(
-        n: usize,
-        count: usize,
-        pairs: *const u32,
-        pairs_len: usize,
-        row_offsets: *mut u32,
-        row_offsets_len: usize,
-        cols: *mut u32,
-        cols_len: usize,
-        diagonal: *mut u32,
-        diagonal_len: usize,
-        work: *mut u32,
-        work_len: usize,
+        n: usize, count: usize, pairs: &[u32], row_offsets: &mut [u32], cols: &mut [u32], diagonal: &mut [u32],
+        work: &mut [u32]
     ) -> u8;
     fn bracket_block_index(
-        n: usize,
-        row_offsets: *const u32,
-        row_offsets_len: usize,
-        cols: *const u32,
-        cols_len: usize,
-        diagonal: *const u32,
-        diagonal_len: usize,
-        row: usize,
-        col: u32,
-        slot: *mut u32,
+        n: usize, row_offsets: &[u32], cols: &[u32], diagonal: &[u32], row: usize, col: u32, slot: &mut u32
     ) -> u8;
     fn bracket_diagonal_index(
-        n: usize,
-        row_offsets: *const u32,
-        row_offsets_len: usize,
-        cols: *const u32,
-        cols_len: usize,
-        diagonal: *const u32,
-        diagonal_len: usize,
-        row: usize,
-        slot: *mut u32,
+        n: usize, row_offsets: &[u32], cols: &[u32], diagonal: &[u32], row: usize, slot: &mut u32
     ) -> u8;
-    fn bracket_clear_values(
-        n: usize,
-        row_offsets: *const u32,
-        row_offsets_len: usize,
-        cols: *const u32,
-        cols_len: usize,
-        diagonal: *const u32,
-        diagonal_len: usize,
-        blocks: *mut f32,
-        blocks_len: usize,
-    ) -> u8;
+    fn bracket_clear_values(n: usize, row_offsets: &[u32], cols: &[u32], diagonal: &[u32], blocks: &mut [f32]) -> u8;
     fn bracket_mul(
-        n: usize,
-        row_offsets: *const u32,
-        row_offsets_len: usize,
-        cols: *const u32,
-        cols_len: usize,
-        diagonal: *const u32,
-        diagonal_len: usize,
-        blocks: *const f32,
-        blocks_len: usize,
-        x: *const f32,
-        x_len: usize,
-        out: *mut f32,
-        out_len: usize,
+        n: usize, row_offsets: &[u32], cols: &[u32], diagonal: &[u32], blocks: &[f32], x: &[f32], out: &mut [f32]
     ) -> u8;
     fn bracket_make_dirichlet(
-        n: usize,
-        row_offsets: *const u32,
-        row_offsets_len: usize,
-        cols: *const u32,
-        cols_len: usize,
-        diagonal: *const u32,
-        diagonal_len: usize,
-        row: usize,
-        blocks: *mut f32,
-        blocks_len: usize,
+        n: usize, row_offsets: &[u32], cols: &[u32], diagonal: &[u32], row: usize, blocks: &mut [f32]
     ) -> u8;
     fn bracket_plan(
-        n: usize,
-        row_offsets: *const u32,
-        row_offsets_len: usize,
-        cols: *const u32,
-        cols_len: usize,
-        diagonal: *const u32,
-        diagonal_len: usize,
-        perm: *mut u32,
-        perm_len: usize,
-        inv_perm: *mut u32,
-        inv_perm_len: usize,
-        first: *mut u32,
-        first_len: usize,
-        row_start: *mut u32,
-        row_start_len: usize,
-        degrees: *mut u32,
-        degrees_len: usize,
-        placed: *mut u32,
-        placed_len: usize,
-        mark: *mut u32,
-        mark_len: usize,
-        level: *mut u32,
-        level_len: usize,
-        queue: *mut u32,
-        queue_len: usize,
+        n: usize, row_offsets: &[u32], cols: &[u32], diagonal: &[u32], perm: &mut [u32], inv_perm: &mut [u32],
+        first: &mut [u32], row_start: &mut [u32], degrees: &mut [u32], placed: &mut [u32], mark: &mut [u32],
+        level: &mut [u32], queue: &mut [u32]
     ) -> u8;
     fn bracket_factorize(
-        n: usize,
-        row_offsets: *const u32,
-        row_offsets_len: usize,
-        cols: *const u32,
-        cols_len: usize,
-        diagonal: *const u32,
-        diagonal_len: usize,
-        blocks: *const f32,
-        blocks_len: usize,
-        perm: *const u32,
-        perm_len: usize,
-        inv_perm: *const u32,
-        inv_perm_len: usize,
-        first: *const u32,
-        first_len: usize,
-        row_start: *const u32,
-        row_start_len: usize,
-        values: *mut f32,
-        values_len: usize,
-        how: *mut u32,
-        row: *mut usize,
-        pivot: *mut f32,
+        n: usize, row_offsets: &[u32], cols: &[u32], diagonal: &[u32], blocks: &[f32], perm: &[u32],
+        inv_perm: &[u32], first: &[u32], row_start: &[u32], values: &mut [f32], how: &mut u32, row: &mut usize,
+        pivot: &mut f32
     ) -> u8;
     fn bracket_solve(
-        n: usize,
-        perm: *const u32,
-        perm_len: usize,
-        inv_perm: *const u32,
-        inv_perm_len: usize,
-        first: *const u32,
-        first_len: usize,
-        row_start: *const u32,
-        row_start_len: usize,
-        values: *const f32,
-        values_len: usize,
-        b: *const f32,
-        b_len: usize,
-        x: *mut f32,
-        x_len: usize,
-        scratch: *mut f32,
-        scratch_len: usize,
+        n: usize, perm: &[u32], inv_perm: &[u32], first: &[u32], row_start: &[u32], values: &[f32], b: &[f32],
+        x: &mut [f32], scratch: &mut [f32]
     ) -> u8;
     fn bracket_update_preconditioner(
-        n: usize,
-        row_offsets: *const u32,
-        row_offsets_len: usize,
-        cols: *const u32,
-        cols_len: usize,
-        diagonal: *const u32,
-        diagonal_len: usize,
-        blocks: *const f32,
-        blocks_len: usize,
-        preconditioner: *mut f32,
-        preconditioner_len: usize,
+        n: usize, row_offsets: &[u32], cols: &[u32], diagonal: &[u32], blocks: &[f32], preconditioner: &mut [f32]
     ) -> u8;
 }
 

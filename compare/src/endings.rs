@@ -2,37 +2,12 @@
 
 use oracle::call::{Call, Left};
 
-extern "C" {
+declared! {
     fn bracket_conjugate_gradient(
-        n: usize,
-        row_offsets: *const u32,
-        row_offsets_len: usize,
-        cols: *const u32,
-        cols_len: usize,
-        diagonal: *const u32,
-        diagonal_len: usize,
-        blocks: *const f32,
-        blocks_len: usize,
-        preconditioner: *const f32,
-        preconditioner_len: usize,
-        b: *const f32,
-        b_len: usize,
-        tolerance: f32,
-        max_iterations: usize,
-        x: *mut f32,
-        x_len: usize,
-        residual: *mut f32,
-        residual_len: usize,
-        direction: *mut f32,
-        direction_len: usize,
-        a_direction: *mut f32,
-        a_direction_len: usize,
-        z: *mut f32,
-        z_len: usize,
-        how: *mut u32,
-        count: *mut usize,
-        norm: *mut f32,
-        denominator: *mut f32,
+        n: usize, row_offsets: &[u32], cols: &[u32], diagonal: &[u32], blocks: &[f32], preconditioner: &[f32],
+        b: &[f32], tolerance: f32, max_iterations: usize, x: &mut [f32], residual: &mut [f32],
+        direction: &mut [f32], a_direction: &mut [f32], z: &mut [f32], how: &mut u32, count: &mut usize,
+        norm: *mut f32, denominator: *mut f32
     ) -> u8;
 }
 

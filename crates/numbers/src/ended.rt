@@ -30,53 +30,40 @@ pub fn solved_number(s: Solved) -> u8
     }
 }
 
+// The four places, filled.
+pub fn filled(how: u32, count: usize, norm: f32, denominator: f32) -> Places
+    ensures { λ r. ⌜ r ≡ places how count norm denominator ⌝ }
+{
+    Places {
+        how: how,
+        count: count,
+        norm: norm,
+        denominator: denominator,
+    }
+}
+
 pub fn told(o: Outcome) -> Places
     ensures { λ r. ⌜ r ≡ toldOf o ⌝ }
 {
     match o {
-        Outcome::Zero { count: k } => Places {
-            how: 1,
-            count: k,
-            norm: 0.0,
-            denominator: 0.0,
-        },
+        Outcome::Zero { count: k } => filled(1, k, 0.0, 0.0),
         Outcome::Near {
             count: k,
             residual: a,
-        } => Places {
-            how: 2,
-            count: k,
-            norm: a,
-            denominator: 0.0,
-        },
+        } => filled(2, k, a, 0.0),
         Outcome::Converged {
             count: k,
             residual: a,
-        } => Places {
-            how: 3,
-            count: k,
-            norm: a,
-            denominator: 0.0,
-        },
+        } => filled(3, k, a, 0.0),
         Outcome::Curvature {
             count: k,
             residual: a,
             denominator: d,
-        } => Places {
-            how: 4,
-            count: k,
-            norm: a,
-            denominator: d,
-        },
+        } => filled(4, k, a, d),
         Outcome::Limit {
             count: k,
             residual: a,
-        } => Places {
-            how: 5,
-            count: k,
-            norm: a,
-            denominator: 0.0,
-        },
+        } => filled(5, k, a, 0.0),
     }
 }
 
@@ -84,12 +71,7 @@ pub fn after(s: Solved, how: u32, count: usize, norm: f32, denominator: f32) -> 
     ensures { λ r. ⌜ r ≡ placesOf s (places how count norm denominator) ⌝ }
 {
     match s {
-        Solved::Refused(_) => Places {
-            how: how,
-            count: count,
-            norm: norm,
-            denominator: denominator,
-        },
+        Solved::Refused(_) => filled(how, count, norm, denominator),
         Solved::Ran(o) => told(o),
     }
 }
