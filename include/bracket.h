@@ -84,7 +84,7 @@ enum bracket_count {
     BRACKET_COUNTS
 };
 
-/* What bracket_block_index finds where the pattern stores no block. */
+/* What bracket_block_index finds where the pattern stores no block, and bracket_row_col past a row's end. */
 #define BRACKET_ABSENT UINT32_MAX
 
 /* ---- Plane numbers. Every operation is rounded on its own, none is fused. ---- */
@@ -160,6 +160,24 @@ uint8_t bracket_diagonal_index(
     const uint32_t *cols, size_t cols_len,
     const uint32_t *diagonal, size_t diagonal_len,
     size_t row, uint32_t *slot);
+
+/*
+ * One row of a pattern: the slot of its first block, how many blocks it has, and the column of its j-th block, whose slot is the
+ * first one's and j more. Needs nothing and refuses nothing: a row that the lists don't hold, or whose bounds are not in order,
+ * has no block and first slot 0. The column is BRACKET_ABSENT past the row's end.
+ */
+size_t bracket_row_first(
+    const uint32_t *row_offsets, size_t row_offsets_len,
+    const uint32_t *cols, size_t cols_len,
+    size_t row);
+size_t bracket_row_len(
+    const uint32_t *row_offsets, size_t row_offsets_len,
+    const uint32_t *cols, size_t cols_len,
+    size_t row);
+uint32_t bracket_row_col(
+    const uint32_t *row_offsets, size_t row_offsets_len,
+    const uint32_t *cols, size_t cols_len,
+    size_t row, size_t j);
 
 /*
  * Zeroes every block.

@@ -53,6 +53,12 @@ static void read_patterns(void) {
     EXPECT(bracket_block_index(2, PATTERN(&m), 0, 5, &slot) == 0 && slot == BRACKET_ABSENT);
     EXPECT(bracket_diagonal_index(2, PATTERN(&m), 1, &slot) == 0 && slot == 3);
     EXPECT(bracket_diagonal_index(2, PATTERN(&m), 2, &slot) == BRACKET_OUT_OF_RANGE && slot == 3);
+    EXPECT(bracket_row_first(LENT(m.row_offsets), LENT(m.cols), 1) == 2);
+    EXPECT(bracket_row_len(LENT(m.row_offsets), LENT(m.cols), 1) == 2);
+    EXPECT(bracket_row_col(LENT(m.row_offsets), LENT(m.cols), 1, 0) == 0);
+    EXPECT(bracket_row_col(LENT(m.row_offsets), LENT(m.cols), 1, 1) == 1);
+    EXPECT(bracket_row_col(LENT(m.row_offsets), LENT(m.cols), 1, 2) == BRACKET_ABSENT);
+    EXPECT(bracket_row_len(LENT(m.row_offsets), LENT(m.cols), SIZE_MAX) == 0);
 }
 
 static void read_factors(void) {

@@ -18,6 +18,7 @@ mod planes;
 mod plans;
 mod proved;
 mod roots;
+mod rows;
 mod rust;
 mod second;
 mod sides;
@@ -93,6 +94,7 @@ fn calls(draw: &mut Draw) -> usize {
         + gradients::compare(draw)
         + steps::compare(draw)
         + tallies::compare(draw)
+        + rows::compare(draw)
 }
 
 /// Beside the processor's own instruction: what the Rust calls.

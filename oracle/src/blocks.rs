@@ -44,6 +44,13 @@ impl Blocks {
         self.0.block_index(row, col)
     }
 
+    /// The columns of a row, as the Rust hands them to a closure.
+    pub fn columns(&self, row: u32) -> Vec<u32> {
+        let mut columns = Vec::new();
+        self.0.for_each_block_of_row(row, |c, _| columns.push(c));
+        columns
+    }
+
     pub fn mul(&self, x: &[Vector], out: &mut [Vector]) {
         self.0.mul(x, out);
     }

@@ -94,6 +94,18 @@ impl BlockMatrix {
         Ok(slot)
     }
 
+    /// Hands each block of the row to `f`, with its column, columns rising. A row at `num_rows` or above has none.
+    pub fn for_each_block_of_row(&self, row: u32, mut f: impl FnMut(u32, &Matrix)) {
+        let (starts, cols, row) = (&self.row_offsets, &self.cols, row as usize);
+        let first = sys::bracket_row_first(starts, cols, row);
+        for j in 0..sys::bracket_row_len(starts, cols, row) {
+            f(
+                sys::bracket_row_col(starts, cols, row, j),
+                &self.blocks[first + j],
+            );
+        }
+    }
+
     pub fn clear_values(&mut self) -> Result<(), Refusal> {
         accepted(sys::bracket_clear_values(
             self.num_rows(),

@@ -4,11 +4,12 @@ ghost use Rattle.law.specs.Promise.{Promise};
 ghost use Rattle.plane.specs.Plane.{pair, dotOf, timesOf, determinantOf, inverseOf};
 ghost use Rattle.plane.specs.Lent.{flat};
 ghost use Rattle.root.specs.Sqrt.{sqrtOf};
-ghost use Rattle.boundary.specs.Handed.{handed, left};
+ghost use Rattle.handed.specs.Handed.{handed, left};
 
 mod conjugate;
 mod matrix;
 mod plan;
+mod row;
 mod solver;
 
 #[no_mangle]
@@ -45,11 +46,7 @@ pub extern "C" fn bracket_times(
 ) -> u8
     ensures { λ r. ⌜ Promise (handed (timesOf (pair (pair c0x c0y) (pair c1x c1y)) (pair vx vy))) (now (out .entry)) (left r (now (out .exit))) ⌝ }
 {
-    if out.len() < 2 {
-        return 3;
-    }
-    vectors::inner::set_vector(out, 0, plane::times([[c0x, c0y], [c1x, c1y]], [vx, vy]));
-    0
+    handed::lent::vector(plane::times([[c0x, c0y], [c1x, c1y]], [vx, vy]), out)
 }
 
 // The inverse's four numbers, column 0 first, into the front of out, or 3.
@@ -57,9 +54,5 @@ pub extern "C" fn bracket_times(
 pub extern "C" fn bracket_inverse(c0x: f32, c0y: f32, c1x: f32, c1y: f32, out: &mut [f32]) -> u8
     ensures { λ r. ⌜ Promise (handed (flat (inverseOf (pair (pair c0x c0y) (pair c1x c1y))))) (now (out .entry)) (left r (now (out .exit))) ⌝ }
 {
-    if out.len() < 4 {
-        return 3;
-    }
-    vectors::inner::set_block(out, 0, plane::inverse([[c0x, c0y], [c1x, c1y]]));
-    0
+    handed::lent::block(plane::inverse([[c0x, c0y], [c1x, c1y]]), out)
 }

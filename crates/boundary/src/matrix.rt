@@ -54,7 +54,7 @@ pub extern "C" fn bracket_block_index(
     col: u32,
     slot: &mut u32,
 ) -> u8
-    ensures { λ r. ⌜ (r ≡ foundNumber (outcome (indexing.blockDoor col) (indexing.given n (now («row_offsets» .entry)) (now (cols .entry)) (now (diagonal .entry)) row))) × (now (slot .exit) ≡ foundSlot (outcome (indexing.blockDoor col) (indexing.given n (now («row_offsets» .entry)) (now (cols .entry)) (now (diagonal .entry)) row)) (now (slot .entry))) ⌝ }
+    ensures { λ r. ⌜ (r ≡ foundNumber (outcome (indexing.blockDoor col) (indexing.given n (now («row_offsets» .entry)) (now (cols .entry)) (now (diagonal .entry)) row) .answer)) × (now (slot .exit) ≡ foundSlot (outcome (indexing.blockDoor col) (indexing.given n (now («row_offsets» .entry)) (now (cols .entry)) (now (diagonal .entry)) row) .answer) (now (slot .entry))) ⌝ }
 {
     let f = pattern::block_index(n, row_offsets, cols, diagonal, row, col);
     *slot = found_slot(f, *slot);
@@ -70,7 +70,7 @@ pub extern "C" fn bracket_diagonal_index(
     row: usize,
     slot: &mut u32,
 ) -> u8
-    ensures { λ r. ⌜ (r ≡ foundNumber (outcome indexing.diagonalDoor (indexing.given n (now («row_offsets» .entry)) (now (cols .entry)) (now (diagonal .entry)) row))) × (now (slot .exit) ≡ foundSlot (outcome indexing.diagonalDoor (indexing.given n (now («row_offsets» .entry)) (now (cols .entry)) (now (diagonal .entry)) row)) (now (slot .entry))) ⌝ }
+    ensures { λ r. ⌜ (r ≡ foundNumber (outcome indexing.diagonalDoor (indexing.given n (now («row_offsets» .entry)) (now (cols .entry)) (now (diagonal .entry)) row) .answer)) × (now (slot .exit) ≡ foundSlot (outcome indexing.diagonalDoor (indexing.given n (now («row_offsets» .entry)) (now (cols .entry)) (now (diagonal .entry)) row) .answer) (now (slot .entry))) ⌝ }
 {
     let f = pattern::diagonal_index(n, row_offsets, cols, diagonal, row);
     *slot = found_slot(f, *slot);

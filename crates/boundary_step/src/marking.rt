@@ -1,54 +1,9 @@
 // The step's factor. Accepted, how is 0 for a whole factor, whose mark is set, 1 for a failure, and 2 where the step is iterated; row and pivot are written by a failure alone.
-use step::Marked;
-ghost use mathlib.Core.Path.{_≡_};
+use numbers_step::marked;
 ghost use Rattle.step.specs.Marking as marking;
 ghost use Rattle.numbers.specs.Numbers.{Told};
 ghost use Rattle.numbers.specs.Direct.{places};
-ghost use Rattle.boundary_step.specs.Marks.{markedNumber, howOf, rowOf, pivotOf, placesOf};
-
-fn marked_number(m: Marked) -> u8
-    ensures { λ r. ⌜ r ≡ markedNumber m ⌝ }
-{
-    match m {
-        Marked::Refused(k) => k,
-        Marked::Direct => 0,
-        Marked::Failed { row: _, pivot: _ } => 0,
-        Marked::Iterative => 0,
-    }
-}
-
-fn marked_how(m: Marked, old: u32) -> u32
-    ensures { λ r. ⌜ r ≡ howOf m old ⌝ }
-{
-    match m {
-        Marked::Refused(_) => old,
-        Marked::Direct => 0,
-        Marked::Failed { row: _, pivot: _ } => 1,
-        Marked::Iterative => 2,
-    }
-}
-
-fn failed_row(m: Marked, old: usize) -> usize
-    ensures { λ r. ⌜ r ≡ rowOf m old ⌝ }
-{
-    match m {
-        Marked::Refused(_) => old,
-        Marked::Direct => old,
-        Marked::Failed { row, pivot: _ } => row,
-        Marked::Iterative => old,
-    }
-}
-
-fn failed_pivot(m: Marked, old: f32) -> f32
-    ensures { λ r. ⌜ r ≡ pivotOf m old ⌝ }
-{
-    match m {
-        Marked::Refused(_) => old,
-        Marked::Direct => old,
-        Marked::Failed { row: _, pivot } => pivot,
-        Marked::Iterative => old,
-    }
-}
+ghost use Rattle.numbers_step.specs.Marks.{markedNumber, placesOf};
 
 #[no_mangle]
 pub extern "C" fn bracket_factorize_step_matrix(
@@ -84,8 +39,8 @@ pub extern "C" fn bracket_factorize_step_matrix(
         values,
         preconditioner,
     );
-    *how = marked_how(m, *how);
-    *row = failed_row(m, *row);
-    *pivot = failed_pivot(m, *pivot);
-    marked_number(m)
+    *how = marked::marked_how(m, *how);
+    *row = marked::failed_row(m, *row);
+    *pivot = marked::failed_pivot(m, *pivot);
+    marked::marked_number(m)
 }

@@ -1,47 +1,12 @@
 // The response, counted. Accepted, five lent places have its gain and tell how its step solve ended, as a step solve's places do, or by 6 that none was asked for; a refusal leaves them.
-use crate::counts;
-use crate::stepping;
 use numbers::ended::Places;
-use response::Responded;
-ghost use mathlib.Core.Path.{_≡_};
+use numbers_step::counts;
+use numbers_step::responded;
 ghost use Rattle.response.specs.Responding as responding;
-ghost use Rattle.report.specs.Counting.{afterResponse};
+ghost use Rattle.counting.specs.Counting.{afterResponse};
 ghost use Rattle.numbers.specs.Told.{places};
-ghost use Rattle.boundary_step.specs.Counts.{Tallied};
-ghost use Rattle.boundary_step.specs.Responses.{gained, respondedNumber, gainOf, placesOf, gainedOf};
-
-fn responded_number(r: Responded) -> u8
-    ensures { λ k. ⌜ k ≡ respondedNumber r ⌝ }
-{
-    match r {
-        Responded::Refused(k) => k,
-        Responded::Nothing => 0,
-        Responded::Direct { gain: _ } => 0,
-        Responded::Iterated { gain: _, how: _ } => 0,
-    }
-}
-
-fn gain_after(r: Responded, old: f32) -> f32
-    ensures { λ g. ⌜ g ≡ gainOf r old ⌝ }
-{
-    match r {
-        Responded::Refused(_) => old,
-        Responded::Nothing => 0.0,
-        Responded::Direct { gain } => gain,
-        Responded::Iterated { gain, how: _ } => gain,
-    }
-}
-
-fn after(r: Responded, old: Places) -> Places
-    ensures { λ p. ⌜ p ≡ placesOf r old ⌝ }
-{
-    match r {
-        Responded::Refused(_) => old,
-        Responded::Nothing => stepping::bare(6),
-        Responded::Direct { gain: _ } => stepping::bare(0),
-        Responded::Iterated { gain: _, how } => numbers::ended::told(how),
-    }
-}
+ghost use Rattle.numbers_step.specs.Counts.{Tallied};
+ghost use Rattle.numbers_step.specs.Responses.{gained, respondedNumber, gainedOf};
 
 #[no_mangle]
 pub extern "C" fn bracket_response_into(
@@ -108,9 +73,9 @@ pub extern "C" fn bracket_response_into(
         a_direction,
         z,
     );
-    *counts = counts::counted(*counts, report::asked::by_response(r));
-    *gain = gain_after(r, *gain);
-    let p = after(
+    *counts = counts::counted(*counts, counting::asked::by_response(r));
+    *gain = responded::gain_after(r, *gain);
+    let p = responded::after(
         r,
         Places {
             how: *how,
@@ -123,5 +88,5 @@ pub extern "C" fn bracket_response_into(
     *count = p.count;
     *norm = p.norm;
     *denominator = p.denominator;
-    responded_number(r)
+    responded::responded_number(r)
 }

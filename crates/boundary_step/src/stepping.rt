@@ -1,45 +1,12 @@
 // The step solve, counted. Accepted, four lent places tell how it ended: 0 for the factor, with no count and no floats, or the outcome's number; a refusal leaves them.
-use crate::counts;
 use numbers::ended::Places;
-use step::Stepped;
-ghost use mathlib.Core.Path.{_≡_};
+use numbers_step::counts;
+use numbers_step::stepped;
 ghost use Rattle.step.specs.Stepping as stepping;
-ghost use Rattle.report.specs.Counting.{afterStep};
+ghost use Rattle.counting.specs.Counting.{afterStep};
 ghost use Rattle.numbers.specs.Told.{places};
-ghost use Rattle.boundary_step.specs.Counts.{Tallied};
-ghost use Rattle.boundary_step.specs.Steps.{bareOf, steppedNumber, placesOf};
-
-// An ending without a count and floats.
-pub fn bare(how: u32) -> Places
-    ensures { λ r. ⌜ r ≡ bareOf how ⌝ }
-{
-    Places {
-        how: how,
-        count: 0,
-        norm: 0.0,
-        denominator: 0.0,
-    }
-}
-
-fn stepped_number(s: Stepped) -> u8
-    ensures { λ r. ⌜ r ≡ steppedNumber s ⌝ }
-{
-    match s {
-        Stepped::Refused(k) => k,
-        Stepped::Direct => 0,
-        Stepped::Iterated(_) => 0,
-    }
-}
-
-fn after(s: Stepped, old: Places) -> Places
-    ensures { λ r. ⌜ r ≡ placesOf s old ⌝ }
-{
-    match s {
-        Stepped::Refused(_) => old,
-        Stepped::Direct => bare(0),
-        Stepped::Iterated(o) => numbers::ended::told(o),
-    }
-}
+ghost use Rattle.numbers_step.specs.Counts.{Tallied};
+ghost use Rattle.numbers_step.specs.Steps.{steppedNumber, placesOf};
 
 #[no_mangle]
 pub extern "C" fn bracket_solve_step(
@@ -97,8 +64,8 @@ pub extern "C" fn bracket_solve_step(
         a_direction,
         z,
     );
-    *counts = counts::counted(*counts, report::asked::by_step(s));
-    let p = after(
+    *counts = counts::counted(*counts, counting::asked::by_step(s));
+    let p = stepped::after(
         s,
         Places {
             how: *how,
@@ -111,5 +78,5 @@ pub extern "C" fn bracket_solve_step(
     *count = p.count;
     *norm = p.norm;
     *denominator = p.denominator;
-    stepped_number(s)
+    stepped::stepped_number(s)
 }

@@ -7,7 +7,7 @@ use lib.ListN.{length, replicate}
 use Rattle.law.specs.Every.{every}
 use Rattle.law.specs.Limit.{particles, pairs as pairLimit}
 use Rattle.shape.specs.Made.{startOf, startsOf, colsOf, slotsOf}
-use Rattle.build.specs.Pairs.{pairOkAt, storedBy}
+use Rattle.joined.specs.Pairs.{pairOkAt, storedBy}
 
 -- room for every given pair both ways round, and for the diagonals
 abbrev pub roomOf : ℕ → ℕ → ℕ

@@ -6,11 +6,11 @@ use native.Mathlib.Omega.{arith}
 use lib.ListN.{length, drop, replicate, length-replicate}
 use Rattle.law.specs.Store.{written, written-front, drop-replicate}
 use Rattle.shape.specs.Made.{startOf, colsOf, length-cols}
-use Rattle.build.specs.Pairs.{storedBy, start-bound}
+use Rattle.joined.specs.Pairs.{storedBy, start-bound}
 use Rattle.build.specs.Build.{roomOf, Ready, made, builtOf}
-use Rattle.build.specs.Ways.{Given}
-use Rattle.build.specs.Turned.{Listed}
-use Rattle.build.specs.Filled.{Unfilled, AllFilled}
+use Rattle.listed.specs.Ways.{Given}
+use Rattle.listed.specs.Turned.{Listed}
+use Rattle.filled.specs.Filled.{Unfilled, AllFilled}
 
 module _ (n count : ℕ) (pairs starts cols diagonal work : List ℕ) (g : Ready n count pairs starts cols diagonal work) where
   pub given : Given n count pairs

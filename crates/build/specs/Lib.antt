@@ -1,9 +1,2 @@
-pub mod Pairs
 pub mod Build
-pub mod Ways
-pub mod Filed
-pub mod Chain
-pub mod Turned
-pub mod Swept
-pub mod Filled
 pub mod Built

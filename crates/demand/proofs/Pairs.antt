@@ -12,7 +12,7 @@ use Rattle.shape.specs.Formed.{Stored, formed-of}
 use Rattle.shape.specs.Rows.{at}
 use Rattle.shape.specs.Given.{patternRoom, formed}
 use Rattle.shape.specs.Made.{startOf, Begins, begins, stored-passes, passes-stored, well-formed}
-use Rattle.build.specs.Pairs.{storedBy, own, twin, Together, together-is, together-of, together-below}
+use Rattle.joined.specs.Pairs.{storedBy, own, twin, Together, together-is, together-of, together-below}
 use Rattle.build.specs.Build.{builtOf}
 use Rattle.pattern.specs.Building as building
 use Rattle.pattern.specs.Building.{In, Out, Ready, ready, work}

@@ -13,7 +13,7 @@ use Rattle.shape.specs.Formed.{slotOk, homeOk, rowOk, stored, mirrorsOk, starts
 use Rattle.shape.specs.Rows.{at}
 use Rattle.shape.specs.Made.{rowOf, colsOf, startOf, slotOf, startsOf, slotsOf}
 use Rattle.shape.specs.Given.{patternRoom, formed}
-use Rattle.build.specs.Pairs.{joined, storedBy, Together}
+use Rattle.joined.specs.Pairs.{joined, storedBy, Together}
 use Rattle.build.specs.Build.{builtOf}
 use Rattle.pattern.specs.Building as building
 use Rattle.pattern.specs.Building.{listsRoom, refusals as buildRefusals, work as buildWork}

@@ -9,7 +9,7 @@ use Rattle.law.specs.Room.{enough}
 use Rattle.law.specs.Promise.{Promise}
 use Rattle.shape.specs.Rows.{at}
 use Rattle.shape.specs.Given.{formed}
-use Rattle.build.specs.Pairs.{Together}
+use Rattle.joined.specs.Pairs.{Together}
 use Rattle.pattern.specs.Building as building
 use Rattle.pattern.specs.FromPairs as frompairs
 use Rattle.pattern.specs.declared.Built.the-variants as built

@@ -11,14 +11,16 @@ use Rattle.law.specs.Loop.{fold, over}
 use Rattle.law.specs.Promise.{outcome}
 use Rattle.law.specs.Refusal.{verdict}
 use Rattle.shape.specs.Made.{rowOf, colsOf, startOf, startsOf}
-use Rattle.build.specs.Pairs.{joined, storedBy}
+use Rattle.joined.specs.Pairs.{joined, storedBy}
 use Rattle.ordering.specs.Order.{neighbours, reach, settle, chooseStart, fresh, placing, orderOf}
 use Rattle.ordering.specs.Envelope.{firstBlock, firstCol, rowStarts}
 use Rattle.plans.specs.Plan.{planBy, planOf, lengthOf}
-use Rattle.text.specs.Text.{isGap, isDigit, allowed, before, pieces, filled, numbers, small, counted, described}
+use Rattle.scan.specs.Numbers.{isGap, isDigit, allowed, before, pieces, filled, numbers, small}
+use Rattle.text.specs.Text.{counted, described}
 use Rattle.print.specs.Digits.{digits, digitsIn}
 use Rattle.print.specs.Lines.{item, listed, orderLine, numberLine, planText, refusedText}
-use Rattle.desk.specs.Answer.{orderBy, lengthBy, refusals, drawnText, answerOf}
+use Rattle.drawing.specs.Lines.{orderBy, lengthBy, refusals, drawnText}
+use Rattle.desk.specs.Answer.{answerOf}
 
 abbrev Says : String → String → Type 0
 Says text output = answerOf (bytes text) ≡ bytes output

@@ -16,8 +16,9 @@ use Rattle.text.specs.Reading as reading
 use Rattle.text.specs.declared.Input.{Input}
 use Rattle.text.specs.declared.Input.the-variants.{Refused, Text}
 use Rattle.print.specs.Lines.{refusedText}
-use Rattle.desk.specs.Answer.{refusals, drawnText, answerOf}
-use Rattle.desk.specs.Drawn.{Counted}
+use Rattle.drawing.specs.Lines.{refusals, drawnText}
+use Rattle.drawing.specs.Drawn.{Counted}
+use Rattle.desk.specs.Answer.{answerOf}
 
 -- as many numbers as pairs may have
 abbrev pub numbersRoom : ℕ

@@ -2,8 +2,6 @@
 ghost use Rattle.law.specs.Promise.{Promise};
 ghost use Rattle.desk.specs.Answering.{given, left, door};
 
-mod drawing;
-mod planning;
 mod session;
 
 // Room for any answer: a line of 1,024 numbers and one for the envelope, ten digits to a number.

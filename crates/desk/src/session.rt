@@ -7,7 +7,7 @@ ghost use Rattle.law.specs.Limit.{particles};
 ghost use Rattle.law.specs.Put.{Written};
 ghost use Rattle.print.specs.Lines.{planRoom};
 ghost use Rattle.desk.specs.Answer.{answerOf};
-ghost use Rattle.desk.specs.Drawn.{Sheet};
+ghost use Rattle.drawing.specs.Drawn.{Sheet};
 ghost use Rattle.desk.specs.Read.{numbersRoom};
 
 fn reply_in(
@@ -28,7 +28,7 @@ fn reply_in(
         Input::Refused(k) => print::inner::write_refused(k, out),
         Input::Text { n, pairs } => {
             let m = 2 * pairs;
-            crate::drawing::drawn(
+            drawing::inner::drawn(
                 n,
                 pairs,
                 &numbers[..m],

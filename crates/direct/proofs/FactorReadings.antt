@@ -15,8 +15,10 @@ use Rattle.shape.specs.Formed.{slotOk as columnOk, homeOk, rowOk as columnsOk, 
 use Rattle.shape.specs.Given.{patternRoom, formed}
 use Rattle.fits.specs.Fits.{backOk, undoOk, twinsOk, firstsOk, growOk, startsOk, plannedOk, slotOk, rowOk, insideOk, fitsOk}
 use Rattle.fits.specs.Given.{planRoom, lengthOf}
-use Rattle.factor.specs.Factor.{later, reducedOf, entryOf, entryStep, leftOf, squareStep, pivotOf, closeOf, rowOf, rowStep, factorOf}
-use Rattle.factor.specs.Load.{besideOf, cornerOf, slotInto, slotsInto, rowInto, loadOf, matrixOf}
+use Rattle.load.specs.Load.{besideOf, cornerOf, slotInto, slotsInto, rowInto, loadOf}
+use Rattle.entries.specs.Row.{later, reducedOf, entryOf, entryStep, leftOf, squareStep, pivotOf}
+use Rattle.factor.specs.Factor.{closeOf, rowOf, rowStep, factorOf}
+use Rattle.factor.specs.Matrix.{matrixOf}
 use Rattle.direct.specs.declared.Factored.the-variants.{Refused, Done, Failed}
 use Rattle.direct.specs.Factorizing.{Out, given, left, valuesRoom, refusals, stateOf, work, door}
 

@@ -12,7 +12,8 @@ use Rattle.law.specs.Promise.{outcome}
 use Rattle.plane.specs.Plane.{zero32, one32}
 use Rattle.fits.specs.Fits.{backOk, undoOk, twinsOk, firstsOk, growOk, startsOk, plannedOk}
 use Rattle.fits.specs.Given.{planRoom, lengthOf}
-use Rattle.substitution.specs.Solve.{rowSum, forwardBy, forwardStep, forwardOf, takenOf, backStep, backwardOf, permuted, placedOf, solveOf}
+use Rattle.passes.specs.Passes.{rowSum, forwardBy, forwardStep, forwardOf, takenOf, backStep, backwardOf}
+use Rattle.substitution.specs.Solve.{permuted, placedOf, solveOf}
 use Rattle.direct.specs.declared.Solved.the-variants.{Refused, Done}
 use Rattle.direct.specs.Solving.{In, given, left, valuesRoom, refusals, work, door}
 

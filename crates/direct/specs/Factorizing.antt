@@ -12,17 +12,20 @@ use Rattle.law.specs.Limit.{particles, envelope}
 use Rattle.law.specs.Room.{Room, enough, enough-is}
 use Rattle.law.specs.Refusal.{Test, unless, Rising, verdict, all-pass}
 use Rattle.law.specs.Promise.{Door}
+use Rattle.law.specs.Said.{Said}
 use Rattle.shape.specs.Rows.{at}
 use Rattle.shape.specs.Given.{patternRoom, formed, pattern}
 use Rattle.fits.specs.Fits.{Fits, fitsOk, fits-is}
 use Rattle.fits.specs.Lists.{Laid}
 use Rattle.fits.specs.Given.{planRoom, lengthOf, laid}
+use Rattle.load.specs.Load.{Loads, loads-of}
 use Rattle.factor.specs.declared.Factored as outcome
 use Rattle.factor.specs.declared.Factored.the-variants as outcomes
 use Rattle.factor.specs.Factor.{State, state}
-use Rattle.factor.specs.Load.{Loads, loads-of, matrixOf}
+use Rattle.factor.specs.Matrix.{matrixOf}
 use Rattle.direct.specs.declared.Factored.{Factored}
 use Rattle.direct.specs.declared.Factored.the-variants.{Refused, Done, Failed}
+use Rattle.direct.specs.Said.{factoredSaid}
 
 pub record In : Type 0 where
   pub n : ℕ
@@ -38,6 +41,7 @@ pub record In : Type 0 where
 
 pub record Out : Type 0 where
   pub answer : Factored
+  pub said : Said
   pub values : List Float
 
 abbrev pub given : ℕ → List ℕ → List ℕ → List ℕ → List Float → List ℕ → List ℕ → List ℕ → List ℕ → List Float → In
@@ -45,7 +49,7 @@ given n starts cols diagonal blocks perm inverse first begins values =
     record { n = n; row-offsets = starts; cols = cols; diagonal = diagonal; blocks = blocks; perm = perm; inv-perm = inverse; first = first; row-start = begins; values = values }
 
 abbrev pub left : Factored → List Float → Out
-left r values = record { answer = r; values = values }
+left r values = record { answer = r; said = factoredSaid r; values = values }
 
 -- what the two lists of floats need, and what they have
 unfoldable pub valuesRoom : ℕ → List ℕ → List Float → List ℕ → List Float → Room

@@ -1,2 +1,3 @@
+pub mod Said
 pub mod Factorizing
 pub mod Solving

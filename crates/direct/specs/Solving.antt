@@ -13,6 +13,7 @@ use Rattle.law.specs.Mix.{mix}
 use Rattle.law.specs.Room.{Room, enough, enough-is}
 use Rattle.law.specs.Refusal.{Test, unless, Rising, verdict, all-pass}
 use Rattle.law.specs.Promise.{Door}
+use Rattle.law.specs.Said.{Said}
 use Rattle.plane.specs.Plane.{zeroOf}
 use Rattle.shape.specs.Rows.{at}
 use Rattle.fits.specs.Fits.{plannedOk}
@@ -22,6 +23,7 @@ use Rattle.substitution.specs.Solve as substitution
 use Rattle.substitution.specs.Solve.{solveOf, solvedOf}
 use Rattle.direct.specs.declared.Solved.{Solved}
 use Rattle.direct.specs.declared.Solved.the-variants.{Refused, Done}
+use Rattle.direct.specs.Said.{solvedSaid}
 
 pub record In : Type 0 where
   pub n : ℕ
@@ -36,6 +38,7 @@ pub record In : Type 0 where
 
 pub record Out : Type 0 where
   pub answer : Solved
+  pub said : Said
   pub x : List Float
   pub scratch : List Float
 
@@ -44,7 +47,7 @@ given n perm inverse first starts values b x scratch =
     record { n = n; perm = perm; inv-perm = inverse; first = first; row-start = starts; values = values; b = b; x = x; scratch = scratch }
 
 abbrev pub left : Solved → List Float → List Float → Out
-left r x scratch = record { answer = r; x = x; scratch = scratch }
+left r x scratch = record { answer = r; said = solvedSaid r; x = x; scratch = scratch }
 
 -- what values and vectors need, and what they have
 unfoldable pub valuesRoom : ℕ → List ℕ → List Float → List Float → List Float → List Float → Room

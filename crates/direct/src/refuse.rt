@@ -63,7 +63,7 @@ pub fn factorizing(
     if !checked::given::pattern_formed(n, row_offsets, cols, diagonal) {
         return 5;
     }
-    if !fits::inside::fits(n, row_offsets, cols, perm, inv_perm, first, row_start) {
+    if !enclosed::inside::fits(n, row_offsets, cols, perm, inv_perm, first, row_start) {
         return 6;
     }
     if !short(n, row_start) {
@@ -112,7 +112,7 @@ pub fn solving(
     if !solve_room(n, row_start, values, b, x, scratch) {
         return 3;
     }
-    if !fits::plan::plan_ok(n, perm, inv_perm, first, row_start) {
+    if !planned::plan::plan_ok(n, perm, inv_perm, first, row_start) {
         return 6;
     }
     if !short(n, row_start) {

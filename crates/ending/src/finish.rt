@@ -43,7 +43,7 @@ pub fn rescale(
     }
     let alpha = clamp(numerator / denominator);
     if alpha != 1.0 {
-        vectors::inner::scale_all(n, alpha, x);
+        multiples::inner::scale_all(n, alpha, x);
     }
 }
 

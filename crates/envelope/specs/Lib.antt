@@ -1,3 +1,4 @@
+pub mod Said
 pub mod Facts
 pub mod Planning
 pub mod PlanFits

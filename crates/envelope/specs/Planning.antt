@@ -12,6 +12,7 @@ use Rattle.law.specs.Limit.{particles, envelope}
 use Rattle.law.specs.Room as room
 use Rattle.law.specs.Refusal.{Test, unless, Rising, verdict, all-pass, stops, goes-on, ends, rising-front, decides-early, decides-late, verdict-under}
 use Rattle.law.specs.Promise.{Door, Promise, refuses, accepts}
+use Rattle.law.specs.Said.{Said}
 use Rattle.shape.specs.Rows.{at, Pattern}
 use Rattle.shape.specs.Given.{patternRoom, formed, pattern}
 use Rattle.ordering.specs.Tight.{tight-of}
@@ -20,6 +21,7 @@ use Rattle.plans.specs.Plan.{Plan, four, planOf, lengthOf}
 use Rattle.plans.specs.Parts.{Work, five, Ground, Room, Desk, Made, made, zeros, settled, madeOf}
 use Rattle.envelope.specs.declared.Planned.{Planned}
 use Rattle.envelope.specs.declared.Planned.the-variants.{Refused, Done}
+use Rattle.envelope.specs.Said.{plannedSaid}
 
 pub record In : Type 0 where
   pub n : ℕ
@@ -31,6 +33,7 @@ pub record In : Type 0 where
 
 pub record Out : Type 0 where
   pub answer : Planned
+  pub said : Said
   pub plan : Plan
   pub work : Work
 
@@ -38,7 +41,7 @@ abbrev pub given : ℕ → List ℕ → List ℕ → List ℕ → Plan → Work 
 given n starts cols diagonal plan work = record { n = n; row-offsets = starts; cols = cols; diagonal = diagonal; plan = plan; work = work }
 
 abbrev pub left : Planned → Plan → Work → Out
-left r plan work = record { answer = r; plan = plan; work = work }
+left r plan work = record { answer = r; said = plannedSaid r; plan = plan; work = work }
 
 -- the pattern's own part of each list
 abbrev pub startsOf : In → List ℕ

@@ -1,4 +1,2 @@
-// Whether a plan fits: by the rules that ask for no pattern, and with its pattern.
+// When a plan fits, as definitions; and a plan as a call is handed it.
 pub mod given;
-pub mod inside;
-pub mod plan;

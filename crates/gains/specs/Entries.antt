@@ -19,7 +19,7 @@ use Rattle.law.specs.Room.{Room, enough, enough-is}
 use Rattle.plane.specs.Plane.{Vector, _⊕_, zero32, zeroOf, addOf, dotOf}
 use Rattle.plane.specs.Lent.{vectorAt, withVector}
 use Rattle.shape.specs.Rows.{at}
-use Rattle.step.specs.Dense.{cleared}
+use Rattle.routes.specs.Dense.{cleared}
 
 -- what the lists need, and what they have
 unfoldable pub entriesRoom : ℕ → List ℕ → ℕ → List ℕ → List Float → Room

@@ -20,7 +20,7 @@ use Rattle.turn.specs.Solve.{turn, run, rescaled, finished, freshOf, launched, 
 use Rattle.turn.specs.Inverse.{orIdentity, inverseAt}
 use Rattle.gradient.specs.declared.Solved.the-variants.{Ran, Refused as No}
 use Rattle.gradient.specs.declared.Updated.the-variants.{Done, Refused}
-use Rattle.gradient.specs.Settings.{settingsOk}
+use Rattle.settings.specs.Settings.{settingsOk}
 use Rattle.gradient.specs.Solving as solving
 use Rattle.gradient.specs.Updating as updating
 

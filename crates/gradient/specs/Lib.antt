@@ -1,3 +1,3 @@
-pub mod Settings
+pub mod Said
 pub mod Solving
 pub mod Updating

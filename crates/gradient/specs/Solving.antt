@@ -1,98 +1,40 @@
--- THE DOOR `solve`: the conjugate gradient, with the preconditioner as it stands.
+-- THE DOOR `solve`: the conjugate gradient, with the preconditioner as it stands. What it is handed and refuses is `admitted`'s.
 use Prim.Native.Nat.{ℕ, _*_, _≤_}
 use mathlib.Core.Path.{_≡_, ap}
 use mathlib.Core.Bool.{true}
-use mathlib.Core.List.{List, [], _∷_, _++_}
+use mathlib.Core.List.{List, _++_}
 use native.Mathlib.Omega.{arith}
 use lib.ListN.{length, take, drop}
 use lib.Seq.{length-take-le}
-use lib.Dec.{leb}
 use lib.Ieee.{Float}
 use borrow.Author.Tests.{leb-true}
 use Rattle.law.specs.Limit.{particles}
-use Rattle.law.specs.Room.{Room, enough, enough-is}
-use Rattle.law.specs.Refusal.{Test, unless, Rising, verdict, all-pass}
+use Rattle.law.specs.Room.{enough-is}
+use Rattle.law.specs.Refusal.{verdict, all-pass}
 use Rattle.law.specs.Promise.{Door}
-use Rattle.shape.specs.Rows.{at, rows-of}
-use Rattle.shape.specs.Given.{patternRoom, formed, pattern}
+use Rattle.law.specs.Said.{Said}
+use Rattle.shape.specs.Rows.{rows-of}
+use Rattle.shape.specs.Given.{pattern}
 use Rattle.turn.specs.declared.Outcome.{Outcome}
 use Rattle.turn.specs.Vectors.{Matrix, product, preconditioned, zeros}
 use Rattle.turn.specs.Solve.{Ended, ended, Sized, solved}
 use Rattle.gradient.specs.declared.Solved.{Solved}
 use Rattle.gradient.specs.declared.Solved.the-variants.{Refused, Ran}
-use Rattle.gradient.specs.Settings.{settingsOk}
-
-pub record In : Type 0 where
-  pub n : ℕ
-  pub row-offsets : List ℕ
-  pub cols : List ℕ
-  pub diagonal : List ℕ
-  pub blocks : List Float
-  pub preconditioner : List Float
-  pub b : List Float
-  pub tolerance : Float
-  pub max-iterations : ℕ
-  pub x : List Float
-  pub residual : List Float
-  pub direction : List Float
-  pub a-direction : List Float
-  pub z : List Float
+use Rattle.gradient.specs.Said.{solvedSaid}
+pub use Rattle.admitted.specs.Solving.{In, given, in-order}
+unfoldable pub use Rattle.admitted.specs.Solving.{vectorsRoom, refusals}
 
 pub record Out : Type 0 where
   pub answer : Solved
+  pub said : Said
   pub x : List Float
   pub residual : List Float
   pub direction : List Float
   pub a-direction : List Float
   pub z : List Float
 
-abbrev pub given : ℕ → List ℕ → List ℕ → List ℕ → List Float → List Float → List Float → Float → ℕ → List Float → List Float → List Float → List Float → List Float → In
-given n starts cols diagonal blocks preconditioner b tolerance limit x residual direction a-direction z = record {
-  n = n;
-  row-offsets = starts;
-  cols = cols;
-  diagonal = diagonal;
-  blocks = blocks;
-  preconditioner = preconditioner;
-  b = b;
-  tolerance = tolerance;
-  max-iterations = limit;
-  x = x;
-  residual = residual;
-  direction = direction;
-  a-direction = a-direction;
-  z = z;
-}
-
 abbrev pub left : Solved → List Float → List Float → List Float → List Float → List Float → Out
-left r x residual direction a-direction z = record { answer = r; x = x; residual = residual; direction = direction; a-direction = a-direction; z = z }
-
--- what the values and vectors need, and what they have
-unfoldable pub vectorsRoom : ℕ → List ℕ → List Float → List Float → List Float → List Float → List Float → List Float → List Float → List Float → Room
-vectorsRoom n starts blocks preconditioner b x residual direction a-direction z =
-    (4 * at starts n, length blocks)
-    ∷ (4 * n, length preconditioner)
-    ∷ (2 * n, length b)
-    ∷ (2 * n, length x)
-    ∷ (2 * n, length residual)
-    ∷ (2 * n, length direction)
-    ∷ (2 * n, length a-direction)
-    ∷ (2 * n, length z)
-    ∷ []
-
--- THE REFUSALS
-unfoldable pub refusals : In → List Test
-refusals i =
-    unless 1 (leb (i .n) particles)
-    ∷ unless 3 (enough true (patternRoom (i .n) (i .row-offsets) (i .cols) (i .diagonal)))
-    ∷ unless 3 (enough true (vectorsRoom (i .n) (i .row-offsets) (i .blocks) (i .preconditioner) (i .b) (i .x) (i .residual) (i .direction) (i .a-direction) (i .z)))
-    ∷ unless 5 (formed (i .n) (i .row-offsets) (i .cols) (i .diagonal))
-    ∷ unless 8 (settingsOk (i .tolerance) (i .max-iterations))
-    ∷ []
-
-pub in-order : (i : In) → Rising 1 (refusals i)
-unfolding refusals
-in-order i = (omega arith, (omega arith, (omega arith, (omega arith, (omega arith, tt)))))
+left r x residual direction a-direction z = record { answer = r; said = solvedSaid r; x = x; residual = residual; direction = direction; a-direction = a-direction; z = z }
 
 -- THE WORK: the solve from x's first 2 * n places; zeros in those of the work buffers; rests as they were
 unfoldable pub solveFor : In → Ended

@@ -1,58 +1,33 @@
--- THE DOOR `update_preconditioner`: each diagonal block's inverse, or the identity.
+-- THE DOOR `update_preconditioner`: each diagonal block's inverse, or the identity. What it is handed and refuses is `admitted`'s.
 use Prim.Native.Nat.{ℕ, _*_, _≤_}
 use mathlib.Core.Path.{_≡_}
 use mathlib.Core.Bool.{true}
-use mathlib.Core.List.{List, [], _∷_}
+use mathlib.Core.List.{List, []}
 use native.Mathlib.Omega.{arith}
 use lib.ListN.{length}
-use lib.Dec.{leb}
 use lib.Ieee.{Float}
 use borrow.Author.Tests.{leb-true}
-use Rattle.law.specs.Limit.{particles}
 use Rattle.law.specs.Mix.{mix}
-use Rattle.law.specs.Room.{Room, enough, enough-is}
-use Rattle.law.specs.Refusal.{Test, unless, Rising, verdict, all-pass}
+use Rattle.law.specs.Room.{enough-is}
+use Rattle.law.specs.Refusal.{verdict, all-pass}
 use Rattle.law.specs.Promise.{Door}
+use Rattle.law.specs.Said.{Said}
 use Rattle.shape.specs.Rows.{at, Pattern, row-end}
-use Rattle.shape.specs.Given.{patternRoom, formed, pattern}
+use Rattle.shape.specs.Given.{pattern}
 use Rattle.turn.specs.Inverse.{inverseAt, Slots}
+pub use Rattle.admitted.specs.Updating.{In, given, in-order}
+unfoldable pub use Rattle.admitted.specs.Updating.{inversesRoom, refusals}
 use Rattle.gradient.specs.declared.Updated.{Updated}
 use Rattle.gradient.specs.declared.Updated.the-variants.{Refused, Done}
-
-pub record In : Type 0 where
-  pub n : ℕ
-  pub row-offsets : List ℕ
-  pub cols : List ℕ
-  pub diagonal : List ℕ
-  pub blocks : List Float
-  pub preconditioner : List Float
+use Rattle.gradient.specs.Said.{updatedSaid}
 
 pub record Out : Type 0 where
   pub answer : Updated
+  pub said : Said
   pub preconditioner : List Float
 
-abbrev pub given : ℕ → List ℕ → List ℕ → List ℕ → List Float → List Float → In
-given n starts cols diagonal blocks preconditioner = record { n = n; row-offsets = starts; cols = cols; diagonal = diagonal; blocks = blocks; preconditioner = preconditioner }
-
 abbrev pub left : Updated → List Float → Out
-left r preconditioner = record { answer = r; preconditioner = preconditioner }
-
--- what the values and the preconditioner need, and what they have
-unfoldable pub inversesRoom : ℕ → List ℕ → List Float → List Float → Room
-inversesRoom n starts blocks preconditioner = (4 * at starts n, length blocks) ∷ (4 * n, length preconditioner) ∷ []
-
--- THE REFUSALS
-unfoldable pub refusals : In → List Test
-refusals i =
-    unless 1 (leb (i .n) particles)
-    ∷ unless 3 (enough true (patternRoom (i .n) (i .row-offsets) (i .cols) (i .diagonal)))
-    ∷ unless 3 (enough true (inversesRoom (i .n) (i .row-offsets) (i .blocks) (i .preconditioner)))
-    ∷ unless 5 (formed (i .n) (i .row-offsets) (i .cols) (i .diagonal))
-    ∷ []
-
-pub in-order : (i : In) → Rising 1 (refusals i)
-unfolding refusals
-in-order i = (omega arith, (omega arith, (omega arith, (omega arith, tt))))
+left r preconditioner = record { answer = r; said = updatedSaid r; preconditioner = preconditioner }
 
 abbrev pub door : Door In Out
 door = record {

@@ -1,12 +1,12 @@
 // The conjugate gradient over lent slices, soft_fem_sparse.rs's ConjugateGradient (document 01, module 5). THE DOORS: each tests all that it is handed, refuses by number or does the
 // work. Vectors are two floats to a particle, values and the preconditioner four to a block.
+use admitted::refuse;
 use turn::Outcome;
 ghost use Rattle.law.specs.Promise.{Promise};
 ghost use Rattle.gradient.specs.Solving as solving;
 ghost use Rattle.gradient.specs.Updating as updating;
 
 pub mod front;
-pub mod refuse;
 
 pub enum Updated {
     Refused(u8),
@@ -33,7 +33,7 @@ pub fn update_preconditioner(
     if no != 0 {
         return Updated::Refused(no);
     }
-    turn::inner::update_preconditioner(n, diagonal, blocks, preconditioner);
+    inverses::inner::update_preconditioner(n, diagonal, blocks, preconditioner);
     Updated::Done
 }
 

@@ -76,7 +76,7 @@ pub extern "C" fn inside_make_dirichlet(
     requires { ⌜ row < n ⌝ }
     requires { ⌜ 4 * at (now «row_offsets») n ≤ length (now blocks) ⌝ }
 {
-    values::inner::make_dirichlet(n, row_offsets, cols, diagonal, row, blocks)
+    pinned::inner::make_dirichlet(n, row_offsets, cols, diagonal, row, blocks)
 }
 
 #[no_mangle]
@@ -120,7 +120,7 @@ pub extern "C" fn inside_update_preconditioner(
     requires { ⌜ Slots n (now diagonal) (now blocks) ⌝ }
     requires { ⌜ 4 * n ≤ length (now preconditioner) ⌝ }
 {
-    turn::inner::update_preconditioner(n, diagonal, blocks, preconditioner)
+    inverses::inner::update_preconditioner(n, diagonal, blocks, preconditioner)
 }
 
 fn turns(o: Outcome) -> usize {

@@ -4,7 +4,7 @@ ghost use Prim.Native.Nat.{_*_, _≤_};
 ghost use lib.ListN.{length};
 ghost use Rattle.shape.specs.Rows.{at};
 ghost use Rattle.fits.specs.Lists.{Plan};
-ghost use Rattle.factor.specs.Load.{Loads};
+ghost use Rattle.load.specs.Load.{Loads};
 
 #[no_mangle]
 pub extern "C" fn inside_factorize(

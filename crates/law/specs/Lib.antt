@@ -15,5 +15,6 @@ pub mod Decimal
 pub mod Refusal
 pub mod Room
 pub mod Promise
+pub mod Said
 pub mod Limit
 pub mod Wide

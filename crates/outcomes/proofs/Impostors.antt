@@ -7,7 +7,7 @@ use mathlib.Core.List.{List, [], _∷_}
 use mathlib.Core.Logic.{_⊎_, inl, inr, ⊎-elim}
 use Rattle.law.specs.Limit.{tally}
 use Rattle.law.specs.Promise.{by, outcome, zero-of}
-use Rattle.build.specs.Pairs.{Together}
+use Rattle.joined.specs.Pairs.{Together}
 use Rattle.chains.specs.Demand.{Chain, stay, link, Joined, Ordered}
 use Rattle.tally.specs.Runs.{fresh, solves}
 use Rattle.report.specs.Calls.{asksOf, sum-of-calls}

@@ -1,8 +1,10 @@
 -- EVERY PUBLIC CALL'S PROMISE ADMITS ONE OUTCOME. Assumes nothing.
 use mathlib.Core.Path.{refl}
+use lib.ListN.{length}
 use Rattle.root.specs.Whole.{rootOf}
 use Rattle.root.specs.Sqrt.{sqrtOf}
 use Rattle.plane.specs.Plane.{addOf, subOf, scaleOf, dotOf, timesOf, determinantOf, inverseOf, blockFinite}
+use Rattle.view.specs.Row.{spanOf, rowFirst, rowCols, colOr, slotOr}
 use Rattle.pattern.specs.FromPairs as from-pairs
 use Rattle.pattern.specs.Building as building
 use Rattle.pattern.specs.Indexing as index
@@ -19,10 +21,10 @@ use Rattle.step.specs.Stepping as solve-step
 use Rattle.response.specs.Responding as response-into
 use Rattle.tally.specs.Count.{totalOf, addedOf, countedOf}
 use Rattle.tally.specs.Runs.{fresh}
-use Rattle.report.specs.Counting.{afterStep, afterResponse}
+use Rattle.counting.specs.Counting.{afterStep, afterResponse}
 use Rattle.text.specs.Reading.{outcomeOf}
 use Rattle.desk.specs.Answering as answer
-use Rattle.outcomes.specs.One.{of-equation, of-door, of-counted}
+use Rattle.outcomes.specs.One.{of-equation, of-both, of-door, of-counted}
 use Rattle.outcomes.specs.Calls.{OneOutcome}
 
 pub one-outcome : OneOutcome
@@ -38,6 +40,17 @@ one-outcome = record {
   plane-is-finite = λ m. of-equation (blockFinite m);
   root-isqrt = λ n. of-equation (rootOf n);
   root-root = λ x. of-equation (sqrtOf x);
+  view-span-at = λ starts cols r. of-equation (spanOf starts (length cols) r);
+  view-row-first = λ starts cols r. of-equation (rowFirst starts cols r);
+  view-row-len = λ starts cols r. of-equation (length (rowCols starts cols r));
+  view-row-cols = λ starts cols r. of-equation (rowCols starts cols r);
+  view-col-or = λ cols j. of-equation (colOr cols j);
+  view-slot-or = λ cols first j. of-equation (slotOr cols first j);
+  view-view = λ starts cols r. of-both (rowCols starts cols r) (rowFirst starts cols r);
+  view-len = λ shown. of-equation (length shown);
+  view-col-at = λ shown j. of-equation (colOr shown j);
+  view-slot-at = λ shown first j. of-equation (slotOr shown first j);
+  view-row-col = λ starts cols r j. of-equation (colOr (rowCols starts cols r) j);
   pattern-from-pairs = of-door from-pairs.door;
   pattern-pattern-from-pairs = of-door building.door;
   pattern-block-index = λ col. of-door (index.blockDoor col);

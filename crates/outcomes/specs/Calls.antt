@@ -2,12 +2,15 @@
 use Prim.Native.Nat.{ℕ, _<_}
 use mathlib.Core.Path.{_≡_}
 use mathlib.Core.Bool.{Bool}
+use mathlib.Core.List.{List}
+use lib.ListN.{length}
 use lib.Ieee.{Float}
 use Rattle.law.specs.Promise.{Promise}
 use Rattle.law.specs.Wide.{Widened}
 use Rattle.plane.specs.Plane.{Vector, Block, addOf, subOf, scaleOf, dotOf, timesOf, determinantOf, inverseOf, blockFinite}
 use Rattle.root.specs.Whole.{rootOf}
 use Rattle.root.specs.Sqrt.{sqrtOf}
+use Rattle.view.specs.Row.{spanOf, rowFirst, rowCols, colOr, slotOr}
 use Rattle.pattern.specs.FromPairs as from-pairs
 use Rattle.pattern.specs.Building as building
 use Rattle.pattern.specs.Indexing as index
@@ -27,7 +30,7 @@ use Rattle.tally.specs.declared.Kind.{Kind}
 use Rattle.tally.specs.declared.Asked.{Asked}
 use Rattle.tally.specs.Count.{totalOf, addedOf, countedOf}
 use Rattle.tally.specs.Runs.{fresh}
-use Rattle.report.specs.Counting.{afterStep, afterResponse}
+use Rattle.counting.specs.Counting.{afterStep, afterResponse}
 use Rattle.text.specs.Reading as read
 use Rattle.desk.specs.Answering as answer
 use Rattle.outcomes.specs.One.{One, AndRecord}
@@ -47,6 +50,18 @@ pub record OneOutcome : Type 0 where
   -- root
   pub root-isqrt : (n : ℕ) → One (λ r. r ≡ rootOf n)
   pub root-root : (x : Float) → One (λ r. r ≡ sqrtOf x)
+  -- view: a row shown is its columns and its first slot
+  pub view-span-at : (starts cols : List ℕ) (r : ℕ) → One (λ p. p ≡ spanOf starts (length cols) r)
+  pub view-row-first : (starts cols : List ℕ) (r : ℕ) → One (λ k. k ≡ rowFirst starts cols r)
+  pub view-row-len : (starts cols : List ℕ) (r : ℕ) → One (λ k. k ≡ length (rowCols starts cols r))
+  pub view-row-cols : (starts cols : List ℕ) (r : ℕ) → One (λ s. s ≡ rowCols starts cols r)
+  pub view-col-or : (cols : List ℕ) (j : ℕ) → One (λ c. c ≡ colOr cols j)
+  pub view-slot-or : (cols : List ℕ) (first j : ℕ) → One (λ s. s ≡ slotOr cols first j)
+  pub view-view : (starts cols : List ℕ) (r : ℕ) → One (λ (v : List ℕ × ℕ). (v .0 ≡ rowCols starts cols r) × (v .1 ≡ rowFirst starts cols r))
+  pub view-len : (shown : List ℕ) → One (λ n. n ≡ length shown)
+  pub view-col-at : (shown : List ℕ) (j : ℕ) → One (λ c. c ≡ colOr shown j)
+  pub view-slot-at : (shown : List ℕ) (first j : ℕ) → One (λ s. s ≡ slotOr shown first j)
+  pub view-row-col : (starts cols : List ℕ) (r j : ℕ) → One (λ c. c ≡ colOr (rowCols starts cols r) j)
   -- pattern
   pub pattern-from-pairs : (i : from-pairs.In) → One (Promise from-pairs.door i)
   pub pattern-pattern-from-pairs : (i : building.In) → One (Promise building.door i)

@@ -5,7 +5,7 @@ use mathlib.Core.List.{List, [], _∷_}
 use lib.ListN.{length}
 use Rattle.law.specs.Refusal.{Passed}
 use Rattle.law.specs.Promise.{Door, Promise}
-use Rattle.build.specs.Pairs.{Together}
+use Rattle.joined.specs.Pairs.{Together}
 use Rattle.chains.specs.Demand.{Ordered}
 use Rattle.tally.specs.Runs.{fresh, solves}
 use Rattle.report.specs.Calls.{Call, MadeAll, asksOf}

@@ -5,7 +5,7 @@ use mathlib.Core.List.{List}
 use Rattle.law.specs.Promise.{Door, outcome}
 use Rattle.tally.specs.declared.Tally.{Tally}
 use Rattle.numbers.specs.Numbers.{Numbered, Told}
-use Rattle.boundary_step.specs.Counts.{Tallied}
+use Rattle.numbers_step.specs.Counts.{Tallied}
 
 -- of two outcomes, r and s are the numbers; f and g put an answer beside the lists that each leaves
 pub one-number : {I O A : Type 0} (d : Door I O) (answer : O → A) (number : A → ℕ) (i : I) (r s : ℕ) (f g : A → O) → Numbered d answer number i r f → Numbered d answer number i s g

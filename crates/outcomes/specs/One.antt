@@ -9,6 +9,13 @@ One {O} P = (o : O) × (P o × ((p : O) → P p → p ≡ o))
 pub of-equation : {O : Type 0} (o : O) → One (λ (p : O). p ≡ o)
 of-equation o = (o, (refl, λ p h. h))
 
+-- of two equations
+pub of-both : {A B : Type 0} (a : A) (b : B) → One (λ (q : A × B). (q .0 ≡ a) × (q .1 ≡ b))
+of-both {A} {B} a b = ((a, b), ((refl, refl), same))
+  where
+    same : (q : A × B) → (q .0 ≡ a) × (q .1 ≡ b) → q ≡ (a, b)
+    same (x, y) e = rw (e .0, e .1)
+
 -- of a door: the outcome is the answer and every lent list at the call's exit
 pub of-door : {I O : Type 0} (d : Door I O) (i : I) → One (Promise d i)
 of-door d i = (outcome d i, (some-outcome d i, λ p h. one-outcome d i p (outcome d i) h (some-outcome d i)))

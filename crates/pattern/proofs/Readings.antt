@@ -10,7 +10,7 @@ use Rattle.law.specs.Room.{enough}
 use Rattle.law.specs.Refusal.{verdict}
 use Rattle.law.specs.Promise.{outcome}
 use Rattle.shape.specs.Made.{rowOf, colsOf, startOf, slotOf, startsOf, slotsOf}
-use Rattle.build.specs.Pairs.{joined, storedBy}
+use Rattle.joined.specs.Pairs.{joined, storedBy}
 use Rattle.build.specs.Build.{builtOf}
 use Rattle.pattern.specs.declared.Built.the-variants.{Refused, Done}
 use Rattle.pattern.specs.Building.{In, Out, given, left, listsRoom, refusals, work, door}

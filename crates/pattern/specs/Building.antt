@@ -12,10 +12,12 @@ use Rattle.law.specs.Limit.{particles, pairs as pairLimit}
 use Rattle.law.specs.Room.{Room, enough, enough-is}
 use Rattle.law.specs.Refusal.{Test, unless, Rising, verdict, all-pass}
 use Rattle.law.specs.Promise.{Door}
-use Rattle.build.specs.Pairs.{pairOkAt}
+use Rattle.law.specs.Said.{Said}
+use Rattle.joined.specs.Pairs.{pairOkAt}
 use Rattle.build.specs.Build.{roomOf, workOf, Made, made, builtOf}
 use Rattle.pattern.specs.declared.Built.{Built}
 use Rattle.pattern.specs.declared.Built.the-variants.{Refused, Done}
+use Rattle.pattern.specs.Said.{builtSaid}
 
 pub record In : Type 0 where
   pub n : ℕ
@@ -28,6 +30,7 @@ pub record In : Type 0 where
 
 pub record Out : Type 0 where
   pub answer : Built
+  pub said : Said
   pub row-offsets : List ℕ
   pub cols : List ℕ
   pub diagonal : List ℕ
@@ -37,7 +40,7 @@ abbrev pub given : ℕ → ℕ → List ℕ → List ℕ → List ℕ → List �
 given n count pairs starts cols diagonal work = record { n = n; count = count; pairs = pairs; row-offsets = starts; cols = cols; diagonal = diagonal; work = work }
 
 abbrev pub left : Built → List ℕ → List ℕ → List ℕ → List ℕ → Out
-left r starts cols diagonal work = record { answer = r; row-offsets = starts; cols = cols; diagonal = diagonal; work = work }
+left r starts cols diagonal work = record { answer = r; said = builtSaid r; row-offsets = starts; cols = cols; diagonal = diagonal; work = work }
 
 -- what each list needs, counting every given pair, and what it has
 unfoldable pub listsRoom : In → Room

@@ -13,12 +13,14 @@ use Rattle.law.specs.Mix.{mix}
 use Rattle.law.specs.Room.{Room, enough, enough-is}
 use Rattle.law.specs.Refusal.{Test, unless, Rising, verdict, all-pass}
 use Rattle.law.specs.Promise.{Door}
+use Rattle.law.specs.Said.{Said}
 use Rattle.plane.specs.Lent.{flat}
 use Rattle.shape.specs.Rows.{at, Pattern}
 use Rattle.shape.specs.Given.{patternRoom, blocksRoom, formed, pattern}
 use Rattle.values.specs.Dirichlet.{zeroBlock}
 use Rattle.pattern.specs.declared.Ran.{Ran}
 use Rattle.pattern.specs.declared.Ran.the-variants.{Refused, Done}
+use Rattle.pattern.specs.Said.{ranSaid}
 
 pub record In : Type 0 where
   pub n : ℕ
@@ -29,13 +31,14 @@ pub record In : Type 0 where
 
 pub record Out : Type 0 where
   pub answer : Ran
+  pub said : Said
   pub blocks : List Float
 
 abbrev pub given : ℕ → List ℕ → List ℕ → List ℕ → List Float → In
 given n starts cols diagonal blocks = record { n = n; row-offsets = starts; cols = cols; diagonal = diagonal; blocks = blocks }
 
 abbrev pub left : Ran → List Float → Out
-left r blocks = record { answer = r; blocks = blocks }
+left r blocks = record { answer = r; said = ranSaid r; blocks = blocks }
 
 -- THE REFUSALS
 unfoldable pub refusals : In → List Test

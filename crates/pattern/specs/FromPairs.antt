@@ -14,7 +14,7 @@ use Rattle.law.specs.Room.{Room, enough, enough-is}
 use Rattle.law.specs.Refusal.{Test, unless, Rising, verdict, all-pass}
 use Rattle.law.specs.Promise.{Door}
 use Rattle.plane.specs.Lent.{flat}
-use Rattle.build.specs.Pairs.{pairOkAt}
+use Rattle.joined.specs.Pairs.{pairOkAt}
 use Rattle.build.specs.Build.{roomOf}
 use Rattle.values.specs.Dirichlet.{zeroBlock}
 use Rattle.pattern.specs.Building as building

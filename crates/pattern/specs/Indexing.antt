@@ -10,11 +10,13 @@ use Rattle.law.specs.Limit.{particles}
 use Rattle.law.specs.Room.{enough}
 use Rattle.law.specs.Refusal.{Test, unless, Rising, verdict, all-pass}
 use Rattle.law.specs.Promise.{Door}
+use Rattle.law.specs.Said.{Said}
 use Rattle.shape.specs.Rows.{at, Pattern}
 use Rattle.shape.specs.Index.{indexOf}
 use Rattle.shape.specs.Given.{patternRoom, formed, pattern}
 use Rattle.pattern.specs.declared.Found.{Found}
 use Rattle.pattern.specs.declared.Found.the-variants.{Refused, Slot}
+use Rattle.pattern.specs.Said.{foundSaid}
 
 -- what the calls are handed; block_index is handed a column besides
 pub record In : Type 0 where
@@ -26,6 +28,13 @@ pub record In : Type 0 where
 
 abbrev pub given : ℕ → List ℕ → List ℕ → List ℕ → ℕ → In
 given n starts cols diagonal row = record { n = n; row-offsets = starts; cols = cols; diagonal = diagonal; row = row }
+
+pub record Out : Type 0 where
+  pub answer : Found
+  pub said : Said
+
+abbrev pub left : Found → Out
+left r = record { answer = r; said = foundSaid r }
 
 -- THE REFUSALS
 unfoldable pub refusals : In → List Test
@@ -40,11 +49,11 @@ pub in-order : (i : In) → Rising 1 (refusals i)
 unfolding refusals
 in-order i = (omega arith, (omega arith, (omega arith, (omega arith, tt))))
 
-abbrev pub blockDoor : ℕ → Door In Found
-blockDoor col = record { tests = refusals; in-order = in-order; work = λ i. Slot (indexOf (at (i .row-offsets)) (at (i .cols)) (i .row) col); refuse = λ k i. Refused k }
+abbrev pub blockDoor : ℕ → Door In Out
+blockDoor col = record { tests = refusals; in-order = in-order; work = λ i. left (Slot (indexOf (at (i .row-offsets)) (at (i .cols)) (i .row) col)); refuse = λ k i. left (Refused k) }
 
-abbrev pub diagonalDoor : Door In Found
-diagonalDoor = record { tests = refusals; in-order = in-order; work = λ i. Slot (at (i .diagonal) (i .row)); refuse = λ k i. Refused k }
+abbrev pub diagonalDoor : Door In Out
+diagonalDoor = record { tests = refusals; in-order = in-order; work = λ i. left (Slot (at (i .diagonal) (i .row))); refuse = λ k i. left (Refused k) }
 
 -- what the work requires
 pub record Ready (i : In) : Type 0 where

@@ -1,3 +1,4 @@
+pub mod Said
 pub mod Indexing
 pub mod Clearing
 pub mod Multiplying

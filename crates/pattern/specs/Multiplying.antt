@@ -13,11 +13,13 @@ use Rattle.law.specs.Mix.{mix}
 use Rattle.law.specs.Room.{Room, enough, enough-is}
 use Rattle.law.specs.Refusal.{Test, unless, Rising, verdict, all-pass}
 use Rattle.law.specs.Promise.{Door}
+use Rattle.law.specs.Said.{Said}
 use Rattle.shape.specs.Rows.{at, Pattern}
 use Rattle.shape.specs.Given.{patternRoom, formed, pattern}
 use Rattle.values.specs.Product.{productAt}
 use Rattle.pattern.specs.declared.Ran.{Ran}
 use Rattle.pattern.specs.declared.Ran.the-variants.{Refused, Done}
+use Rattle.pattern.specs.Said.{ranSaid}
 
 pub record In : Type 0 where
   pub n : ℕ
@@ -30,13 +32,14 @@ pub record In : Type 0 where
 
 pub record Out : Type 0 where
   pub answer : Ran
+  pub said : Said
   pub out : List Float
 
 abbrev pub given : ℕ → List ℕ → List ℕ → List ℕ → List Float → List Float → List Float → In
 given n starts cols diagonal blocks x out = record { n = n; row-offsets = starts; cols = cols; diagonal = diagonal; blocks = blocks; x = x; out = out }
 
 abbrev pub left : Ran → List Float → Out
-left r out = record { answer = r; out = out }
+left r out = record { answer = r; said = ranSaid r; out = out }
 
 -- what the values and vectors need, and what they have
 unfoldable pub valuesRoom : ℕ → List ℕ → List Float → List Float → List Float → Room

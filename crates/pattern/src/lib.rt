@@ -77,7 +77,7 @@ pub fn block_index(
     row: usize,
     col: u32,
 ) -> Found
-    ensures { λ r. ⌜ Promise (indexing.blockDoor col) (indexing.given n (now («row_offsets» .entry)) (now (cols .entry)) (now (diagonal .entry)) row) r ⌝ }
+    ensures { λ r. ⌜ Promise (indexing.blockDoor col) (indexing.given n (now («row_offsets» .entry)) (now (cols .entry)) (now (diagonal .entry)) row) (indexing.left r) ⌝ }
 {
     let no = refuse::row(n, row_offsets, cols, diagonal, row);
     if no != 0 {
@@ -94,7 +94,7 @@ pub fn diagonal_index(
     diagonal: &[u32],
     row: usize,
 ) -> Found
-    ensures { λ r. ⌜ Promise indexing.diagonalDoor (indexing.given n (now («row_offsets» .entry)) (now (cols .entry)) (now (diagonal .entry)) row) r ⌝ }
+    ensures { λ r. ⌜ Promise indexing.diagonalDoor (indexing.given n (now («row_offsets» .entry)) (now (cols .entry)) (now (diagonal .entry)) row) (indexing.left r) ⌝ }
 {
     let no = refuse::row(n, row_offsets, cols, diagonal, row);
     if no != 0 {
@@ -156,6 +156,6 @@ pub fn make_dirichlet(
     if no != 0 {
         return Ran::Refused(no);
     }
-    values::inner::make_dirichlet(n, row_offsets, cols, diagonal, row, blocks);
+    pinned::inner::make_dirichlet(n, row_offsets, cols, diagonal, row, blocks);
     Ran::Done
 }

@@ -1,13 +1,11 @@
 // The numbers that calls are refused by. Tests run in phases, so that none reads past a list's end.
 ghost use mathlib.Core.Path.{_≡_};
 ghost use mathlib.Core.Bool.{true};
-ghost use Prim.Native.Nat.{_+_, _*_, _≤_, _<_};
+ghost use Prim.Native.Nat.{_≤_, _<_};
 ghost use lib.ListN.{length};
-ghost use Rattle.law.specs.Every.{every};
 ghost use Rattle.law.specs.Limit.{particles, pairs as pairLimit};
 ghost use Rattle.law.specs.Room.{enough};
 ghost use Rattle.law.specs.Refusal.{verdict};
-ghost use Rattle.build.specs.Pairs.{pairOk, pairOkAt};
 ghost use Rattle.shape.specs.Given.{blocksRoom};
 ghost use Rattle.pattern.specs.Indexing as indexing;
 ghost use Rattle.pattern.specs.Clearing as clearing;
@@ -123,24 +121,6 @@ pub fn pinning(
     0
 }
 
-// A pair is no ground for refusal if its numbers are equal, or both below n.
-fn pair_ok(n: usize, a: u32, b: u32) -> bool
-    ensures { λ r. ⌜ r ≡ pairOk n a b ⌝ }
-{
-    (a == b) | ((law::wide(a) < n) & (law::wide(b) < n))
-}
-
-pub fn pairs_ok(n: usize, count: usize, pairs: &[u32]) -> bool
-    requires { ⌜ 2 * count ≤ length (now pairs) ⌝ }
-    ensures { λ r. ⌜ r ≡ every (pairOkAt n (now (pairs .entry))) 0 count ⌝ }
-{
-    let mut ok = true;
-    for i in 0..count {
-        ok = ok & pair_ok(n, pairs[2 * i], pairs[2 * i + 1]);
-    }
-    ok
-}
-
 pub fn lists_room(
     n: usize,
     count: usize,
@@ -181,7 +161,7 @@ pub fn building(
     if !lists_room(n, count, pairs, row_offsets, cols, diagonal, work) {
         return 3;
     }
-    if !pairs_ok(n, count, pairs) {
+    if !joined::given::pairs_ok(n, count, pairs) {
         return 4;
     }
     0
@@ -218,7 +198,7 @@ pub fn from_pairs(
     if !fresh_room(n, count, blocks) {
         return 3;
     }
-    if !pairs_ok(n, count, pairs) {
+    if !joined::given::pairs_ok(n, count, pairs) {
         return 4;
     }
     0

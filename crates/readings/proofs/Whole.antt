@@ -13,7 +13,7 @@ use Rattle.vectors.specs.Whole.{dotAll}
 use Rattle.shape.specs.Formed.{slotOk as columnOk, homeOk, rowOk as columnsOk, stored, mirrorsOk, startsOk as offsetsOk, wellFormed}
 use Rattle.shape.specs.Given.{patternRoom, formed}
 use Rattle.shape.specs.Made as made
-use Rattle.build.specs.Pairs.{joined, storedBy}
+use Rattle.joined.specs.Pairs.{joined, storedBy}
 use Rattle.build.specs.Build.{builtOf}
 use Rattle.pattern.specs.Building as building
 use Rattle.pattern.specs.FromPairs as frompairs
@@ -23,8 +23,11 @@ use Rattle.plans.specs.Plan as plan
 use Rattle.envelope.specs.Planning as planning
 use Rattle.fits.specs.Fits.{backOk, undoOk, twinsOk, firstsOk, growOk, startsOk, plannedOk, slotOk, rowOk, insideOk, fitsOk}
 use Rattle.fits.specs.Given.{planRoom, lengthOf}
-use Rattle.factor.specs.Factor.{later, reducedOf, entryOf, entryStep, leftOf, squareStep, pivotOf, closeOf, rowOf, rowStep, factorOf}
-use Rattle.factor.specs.Load.{besideOf, cornerOf, slotInto, slotsInto, rowInto, loadOf, matrixOf}
+use Rattle.load.specs.Load.{besideOf, cornerOf, slotInto, slotsInto, rowInto, loadOf}
+use Rattle.entries.specs.Row.{later, reducedOf, entryOf, entryStep, leftOf, squareStep, pivotOf}
+use Rattle.factor.specs.Factor.{closeOf, rowOf, rowStep, factorOf}
+use Rattle.factor.specs.Matrix.{matrixOf}
+use Rattle.passes.specs.Passes as passes
 use Rattle.substitution.specs.Solve as substitution
 use Rattle.direct.specs.Factorizing as factorizing
 use Rattle.direct.specs.Solving as substituting
@@ -32,13 +35,13 @@ use Rattle.values.specs.Product.{slotStep, rowSum, productAt}
 use Rattle.turn.specs.Vectors.{product, preconditioned, advanced, retreated, redirected, lacking, scaled, zeros}
 use Rattle.turn.specs.Solve.{turn, run, rescaled, finished, freshOf, launched, started, solved}
 use Rattle.turn.specs.Inverse.{orIdentity, inverseAt}
-use Rattle.gradient.specs.Settings.{settingsOk}
+use Rattle.settings.specs.Settings.{settingsOk}
 use Rattle.gradient.specs.Updating as updating
 use Rattle.gradient.specs.Solving as iterating
 use Rattle.readings.specs.Starred.{Starred}
 
 pub starred : Starred
-unfolding outcome verdict enough every some over fold gather upTo building.listsRoom building.refusals building.work frompairs.valuesRoom frompairs.refusals frompairs.work builtOf storedBy joined made.startsOf made.slotsOf made.colsOf made.startOf made.slotOf made.rowOf planning.lengthFor planning.planRoom planning.early planning.refusals planning.laidOver planning.cleared planning.work planning.refuse plan.planBy plan.planOf plan.lengthOf patternRoom formed wellFormed offsetsOk columnsOk columnOk homeOk mirrorsOk stored orderOf placing fresh chooseStart settle reach neighbours rowStarts firstCol firstBlock factorizing.refusals factorizing.valuesRoom factorizing.work factorizing.stateOf substituting.refusals substituting.valuesRoom substituting.work planRoom lengthOf fitsOk insideOk rowOk slotOk plannedOk undoOk backOk firstsOk twinsOk startsOk growOk matrixOf loadOf rowInto slotsInto slotInto besideOf cornerOf factorOf rowStep rowOf closeOf pivotOf squareStep leftOf entryStep entryOf reducedOf dotRun later sqrtOf substitution.solveOf substitution.placedOf substitution.permuted substitution.backwardOf substitution.backStep substitution.takenOf substitution.forwardOf substitution.forwardStep substitution.forwardBy substitution.rowSum updating.refusals updating.inversesRoom iterating.refusals iterating.vectorsRoom iterating.solveFor iterating.work settingsOk solved started launched freshOf finished rescaled run turn product preconditioned advanced retreated redirected lacking scaled zeros orIdentity inverseAt productAt rowSum slotStep dotAll ofInt ofBits add sub mul div neg lt le eq ne
+unfolding outcome verdict enough every some over fold gather upTo building.listsRoom building.refusals building.work frompairs.valuesRoom frompairs.refusals frompairs.work builtOf storedBy joined made.startsOf made.slotsOf made.colsOf made.startOf made.slotOf made.rowOf planning.lengthFor planning.planRoom planning.early planning.refusals planning.laidOver planning.cleared planning.work planning.refuse plan.planBy plan.planOf plan.lengthOf patternRoom formed wellFormed offsetsOk columnsOk columnOk homeOk mirrorsOk stored orderOf placing fresh chooseStart settle reach neighbours rowStarts firstCol firstBlock factorizing.refusals factorizing.valuesRoom factorizing.work factorizing.stateOf substituting.refusals substituting.valuesRoom substituting.work planRoom lengthOf fitsOk insideOk rowOk slotOk plannedOk undoOk backOk firstsOk twinsOk startsOk growOk matrixOf loadOf rowInto slotsInto slotInto besideOf cornerOf factorOf rowStep rowOf closeOf pivotOf squareStep leftOf entryStep entryOf reducedOf dotRun later sqrtOf substitution.solveOf substitution.placedOf substitution.permuted passes.backwardOf passes.backStep passes.takenOf passes.forwardOf passes.forwardStep passes.forwardBy passes.rowSum updating.refusals updating.inversesRoom iterating.refusals iterating.vectorsRoom iterating.solveFor iterating.work settingsOk solved started launched freshOf finished rescaled run turn product preconditioned advanced retreated redirected lacking scaled zeros orIdentity inverseAt productAt rowSum slotStep dotAll ofInt ofBits add sub mul div neg lt le eq ne
 starred = record {
   none = refl;
   one = refl;

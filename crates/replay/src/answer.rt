@@ -71,8 +71,8 @@ fn inverse(w: &[u32], out: &mut Room) -> usize
     floats(&r[1], out, at)
 }
 
-// The operation of a name; 0 where no operation has it.
-fn operate(name: &[u8], w: &[u32], out: &mut Room) -> usize
+// The operation of a name, by twos and threes; 0 where no operation has it.
+fn scalar(name: &[u8], w: &[u32], out: &mut Room) -> usize
     ensures { λ r. ⌜ r ≤ room ⌝ }
 {
     if check::same(name, b"root") {
@@ -81,21 +81,47 @@ fn operate(name: &[u8], w: &[u32], out: &mut Room) -> usize
     if check::same(name, b"dot") {
         return dot(w, out);
     }
-    if check::same(name, b"times") {
-        return times(w, out);
-    }
     if check::same(name, b"determinant") {
         return determinant(w, out);
+    }
+    0
+}
+
+fn planar(name: &[u8], w: &[u32], out: &mut Room) -> usize
+    ensures { λ r. ⌜ r ≤ room ⌝ }
+{
+    if check::same(name, b"times") {
+        return times(w, out);
     }
     if check::same(name, b"inverse") {
         return inverse(w, out);
     }
+    0
+}
+
+fn matrix(name: &[u8], w: &[u32], out: &mut Room) -> usize
+    ensures { λ r. ⌜ r ≤ room ⌝ }
+{
     if check::same(name, b"plan") {
         return replay_plan::operation::plan(w, out);
     }
     let direct = replay_direct::operation::operate(name, w, out);
     if direct > 0 {
         return direct;
+    }
+    replay_matrix::operation::operate(name, w, out)
+}
+
+fn operate(name: &[u8], w: &[u32], out: &mut Room) -> usize
+    ensures { λ r. ⌜ r ≤ room ⌝ }
+{
+    let single = scalar(name, w, out);
+    if single > 0 {
+        return single;
+    }
+    let several = planar(name, w, out);
+    if several > 0 {
+        return several;
     }
     let iterated = replay_gradient::operation::operate(name, w, out);
     if iterated > 0 {
@@ -105,7 +131,7 @@ fn operate(name: &[u8], w: &[u32], out: &mut Room) -> usize
     if stepped > 0 {
         return stepped;
     }
-    replay_matrix::operation::operate(name, w, out)
+    matrix(name, w, out)
 }
 
 pub fn answer(line: &[u8], words: &mut [u32], out: &mut Room) {

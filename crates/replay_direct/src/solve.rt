@@ -5,10 +5,9 @@ use direct::Solved;
 use law::wide;
 use tokens::list::LONGEST;
 use tokens::list::filled;
-use tokens::list::next;
-use tokens::list::reals;
-use tokens::list::start;
-use tokens::list::stop;
+use tokens::list::lent_reals;
+use tokens::list::plain;
+use tokens::list::wholes;
 use tokens::print::Room;
 use tokens::print::float_list;
 use tokens::print::word;
@@ -23,13 +22,23 @@ fn solved(answer: Solved, out: &mut Room) -> usize
     }
 }
 
-// The call, once all is read.
+// The call, with what the line gives it.
+fn made(w: &[u32], values: &[f32], b: &[f32], x: &mut [f32], scratch: &mut [f32]) -> Solved {
+    direct::solve(
+        wide(plain(w, 0)),
+        wholes(w, 1, 0),
+        wholes(w, 1, 1),
+        wholes(w, 1, 2),
+        wholes(w, 1, 3),
+        values,
+        b,
+        x,
+        scratch,
+    )
+}
+
 fn call(
-    n: usize,
-    perm: &[u32],
-    inv_perm: &[u32],
-    first: &[u32],
-    row_start: &[u32],
+    w: &[u32],
     values: &[f32],
     b: &[f32],
     x: &mut [f32],
@@ -38,101 +47,31 @@ fn call(
 ) -> usize
     ensures { λ r. ⌜ r ≤ room ⌝ }
 {
-    let answer = direct::solve(n, perm, inv_perm, first, row_start, values, b, x, scratch);
-    let at = solved(answer, out);
+    let at = solved(made(w, values, b, x, scratch), out);
     let to = float_list(x, out, at);
     float_list(scratch, out, to)
 }
 
-// Each of these reads the next two lists of the line and hands on all that is read.
-fn unknowns(
-    w: &[u32],
-    at: usize,
-    n: usize,
-    perm: &[u32],
-    inv_perm: &[u32],
-    first: &[u32],
-    row_start: &[u32],
-    values: &[f32],
-    b: &[f32],
-    out: &mut Room,
-) -> usize
+// Each of these lends the next two lists of the line and hands on all that is lent.
+fn unknowns(w: &[u32], values: &[f32], b: &[f32], out: &mut Room) -> usize
     ensures { λ r. ⌜ r ≤ room ⌝ }
 {
     let mut x = [0f32; LONGEST];
     let mut scratch = [0f32; LONGEST];
-    let i = reals(w, at, &mut x);
-    let j = reals(w, next(w, at), &mut scratch);
-    call(
-        n,
-        perm,
-        inv_perm,
-        first,
-        row_start,
-        values,
-        b,
-        &mut x[..i],
-        &mut scratch[..j],
-        out,
-    )
-}
-
-fn knowns(
-    w: &[u32],
-    at: usize,
-    n: usize,
-    perm: &[u32],
-    inv_perm: &[u32],
-    first: &[u32],
-    row_start: &[u32],
-    out: &mut Room,
-) -> usize
-    ensures { λ r. ⌜ r ≤ room ⌝ }
-{
-    let mut values = [0f32; LONGEST];
-    let mut b = [0f32; LONGEST];
-    let t = next(w, at);
-    let i = reals(w, at, &mut values);
-    let j = reals(w, t, &mut b);
-    unknowns(
-        w,
-        next(w, t),
-        n,
-        perm,
-        inv_perm,
-        first,
-        row_start,
-        &values[..i],
-        &b[..j],
-        out,
-    )
+    let i = lent_reals(w, 1, 6, &mut x);
+    let j = lent_reals(w, 1, 7, &mut scratch);
+    call(w, values, b, i, j, out)
 }
 
 pub fn solve(w: &[u32], out: &mut Room) -> usize
     ensures { λ r. ⌜ r ≤ room ⌝ }
 {
-    if w.len() < 1 {
-        return 0;
-    }
     if !filled(w, 1, 8) {
         return 0;
     }
-    let p = start(w, 1);
-    let pe = stop(w, p);
-    let i = start(w, pe);
-    let ie = stop(w, i);
-    let f = start(w, ie);
-    let fe = stop(w, f);
-    let s = start(w, fe);
-    let se = stop(w, s);
-    knowns(
-        w,
-        se,
-        wide(w[0]),
-        &w[p..pe],
-        &w[i..ie],
-        &w[f..fe],
-        &w[s..se],
-        out,
-    )
+    let mut values = [0f32; LONGEST];
+    let mut b = [0f32; LONGEST];
+    let i = lent_reals(w, 1, 4, &mut values);
+    let j = lent_reals(w, 1, 5, &mut b);
+    unknowns(w, i, j, out)
 }

@@ -4,10 +4,9 @@ ghost use Rattle.tokens.specs.Room.{room};
 use law::wide;
 use tokens::list::LONGEST;
 use tokens::list::filled;
-use tokens::list::next;
-use tokens::list::reals;
-use tokens::list::start;
-use tokens::list::stop;
+use tokens::list::lent_reals;
+use tokens::list::plain;
+use tokens::list::wholes;
 use tokens::print::Room;
 use tokens::print::float_list;
 use tokens::print::word;
@@ -22,22 +21,14 @@ fn updated(answer: gradient::Updated, out: &mut Room) -> usize
     }
 }
 
-fn call(
-    n: usize,
-    row_offsets: &[u32],
-    cols: &[u32],
-    diagonal: &[u32],
-    blocks: &[f32],
-    preconditioner: &mut [f32],
-    out: &mut Room,
-) -> usize
+fn call(w: &[u32], blocks: &[f32], preconditioner: &mut [f32], out: &mut Room) -> usize
     ensures { λ r. ⌜ r ≤ room ⌝ }
 {
     let answer = gradient::update_preconditioner(
-        n,
-        row_offsets,
-        cols,
-        diagonal,
+        wide(plain(w, 0)),
+        wholes(w, 1, 0),
+        wholes(w, 1, 1),
+        wholes(w, 1, 2),
         blocks,
         preconditioner,
     );
@@ -45,46 +36,15 @@ fn call(
     float_list(preconditioner, out, at)
 }
 
-fn values(
-    w: &[u32],
-    at: usize,
-    n: usize,
-    row_offsets: &[u32],
-    cols: &[u32],
-    diagonal: &[u32],
-    out: &mut Room,
-) -> usize
-    ensures { λ r. ⌜ r ≤ room ⌝ }
-{
-    let mut blocks = [0f32; LONGEST];
-    let mut preconditioner = [0f32; LONGEST];
-    let b = reals(w, at, &mut blocks);
-    let k = reals(w, next(w, at), &mut preconditioner);
-    call(
-        n,
-        row_offsets,
-        cols,
-        diagonal,
-        &blocks[..b],
-        &mut preconditioner[..k],
-        out,
-    )
-}
-
 pub fn update_preconditioner(w: &[u32], out: &mut Room) -> usize
     ensures { λ r. ⌜ r ≤ room ⌝ }
 {
-    if w.len() < 1 {
-        return 0;
-    }
     if !filled(w, 1, 5) {
         return 0;
     }
-    let r = start(w, 1);
-    let re = stop(w, r);
-    let c = start(w, re);
-    let ce = stop(w, c);
-    let d = start(w, ce);
-    let de = stop(w, d);
-    values(w, de, wide(w[0]), &w[r..re], &w[c..ce], &w[d..de], out)
+    let mut blocks = [0f32; LONGEST];
+    let mut preconditioner = [0f32; LONGEST];
+    let i = lent_reals(w, 1, 3, &mut blocks);
+    let j = lent_reals(w, 1, 4, &mut preconditioner);
+    call(w, i, j, out)
 }

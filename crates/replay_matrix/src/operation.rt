@@ -6,7 +6,7 @@ use crate::blocks;
 use crate::build;
 use tokens::print::Room;
 
-pub fn operate(name: &[u8], w: &[u32], out: &mut Room) -> usize
+fn building(name: &[u8], w: &[u32], out: &mut Room) -> usize
     ensures { λ r. ⌜ r ≤ room ⌝ }
 {
     if check::same(name, b"from_pairs") {
@@ -15,12 +15,24 @@ pub fn operate(name: &[u8], w: &[u32], out: &mut Room) -> usize
     if check::same(name, b"pattern_from_pairs") {
         return build::pattern_from_pairs(w, out);
     }
+    0
+}
+
+fn finding(name: &[u8], w: &[u32], out: &mut Room) -> usize
+    ensures { λ r. ⌜ r ≤ room ⌝ }
+{
     if check::same(name, b"block_index") {
         return blocks::block_index(w, out);
     }
     if check::same(name, b"diagonal_index") {
         return blocks::diagonal_index(w, out);
     }
+    0
+}
+
+fn changing(name: &[u8], w: &[u32], out: &mut Room) -> usize
+    ensures { λ r. ⌜ r ≤ room ⌝ }
+{
     if check::same(name, b"clear_values") {
         return blocks::clear_values(w, out);
     }
@@ -31,4 +43,18 @@ pub fn operate(name: &[u8], w: &[u32], out: &mut Room) -> usize
         return blocks::make_dirichlet(w, out);
     }
     0
+}
+
+pub fn operate(name: &[u8], w: &[u32], out: &mut Room) -> usize
+    ensures { λ r. ⌜ r ≤ room ⌝ }
+{
+    let built = building(name, w, out);
+    if built > 0 {
+        return built;
+    }
+    let found = finding(name, w, out);
+    if found > 0 {
+        return found;
+    }
+    changing(name, w, out)
 }

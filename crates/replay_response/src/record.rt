@@ -3,8 +3,7 @@ ghost use Prim.Native.Nat.{_+_, _≤_, _<_};
 ghost use lib.ListN.{length};
 ghost use Rattle.tokens.specs.Room.{room};
 use tally::Tally;
-use tokens::list::start;
-use tokens::list::stop;
+use tokens::list::wholes;
 use tokens::print::Room;
 use tokens::print::whole_list;
 
@@ -24,14 +23,13 @@ fn counts(c: &[u32]) -> Tally
     }
 }
 
-// The record at `at`; a fresh one where the list isn't seven counts.
-pub fn read(w: &[u32], at: usize) -> Tally {
-    let s = start(w, at);
-    let e = stop(w, s);
-    if e - s < COUNTS {
+// The record that is the list with `lists` lists before it, behind `at` plain numbers; a fresh one where that isn't seven counts.
+pub fn read(w: &[u32], at: usize, lists: usize) -> Tally {
+    let c = wholes(w, at, lists);
+    if c.len() < COUNTS {
         return tally::fresh();
     }
-    counts(&w[s..e])
+    counts(c)
 }
 
 pub fn show(t: Tally, out: &mut Room, at: usize) -> usize

@@ -1,4 +1,4 @@
-// A response, counted. The lists are read by twos and threes, as a step solve's.
+// A response, counted. The lists are lent by twos and threes, as a step solve's.
 ghost use Prim.Native.Nat.{_≤_};
 ghost use Rattle.tokens.specs.Room.{room};
 use crate::ending::of_response;
@@ -8,12 +8,11 @@ use law::wide;
 use response::Responded;
 use tally::Tally;
 use tokens::list::LONGEST;
-use tokens::list::bytes;
 use tokens::list::filled;
-use tokens::list::next;
-use tokens::list::reals;
-use tokens::list::start;
-use tokens::list::stop;
+use tokens::list::lent_bytes;
+use tokens::list::lent_reals;
+use tokens::list::plain;
+use tokens::list::wholes;
 use tokens::print::Room;
 use tokens::print::float_list;
 use tokens::word::real;
@@ -68,31 +67,18 @@ fn tell(
         out,
         at,
     );
-    let record = tally::counted(counts, report::asked::by_response(answer));
+    let record = tally::counted(counts, counting::asked::by_response(answer));
     let end = record::show(record, out, to);
     of_response(answer, out, end)
 }
 
-// The call, once all is read.
-fn call(
-    n: usize,
-    limit: usize,
-    tolerance: f32,
-    dense: usize,
-    factored: bool,
-    entries: usize,
-    row_offsets: &[u32],
-    cols: &[u32],
-    diagonal: &[u32],
+// The call, with what the line gives it.
+fn made(
+    w: &[u32],
     blocks: &[f32],
-    perm: &[u32],
-    inv_perm: &[u32],
-    first: &[u32],
-    row_start: &[u32],
     values: &[f32],
     preconditioner: &[f32],
     pinned: &[u8],
-    particles: &[u32],
     gradients: &[f32],
     solution: &mut [f32],
     rhs: &mut [f32],
@@ -101,30 +87,61 @@ fn call(
     direction: &mut [f32],
     a_direction: &mut [f32],
     z: &mut [f32],
-    counts: Tally,
+) -> Responded {
+    response::inner::response_into(
+        wide(plain(w, 0)),
+        wholes(w, 6, 0),
+        wholes(w, 6, 1),
+        wholes(w, 6, 2),
+        blocks,
+        wholes(w, 6, 4),
+        wholes(w, 6, 5),
+        wholes(w, 6, 6),
+        wholes(w, 6, 7),
+        values,
+        plain(w, 4) != 0,
+        preconditioner,
+        real(plain(w, 2)),
+        wide(plain(w, 1)),
+        wide(plain(w, 3)),
+        pinned,
+        wide(plain(w, 5)),
+        wholes(w, 6, 11),
+        gradients,
+        solution,
+        rhs,
+        scratch,
+        residual,
+        direction,
+        a_direction,
+        z,
+    )
+}
+
+fn call(
+    w: &[u32],
+    blocks: &[f32],
+    values: &[f32],
+    preconditioner: &[f32],
+    pinned: &[u8],
+    gradients: &[f32],
+    solution: &mut [f32],
+    rhs: &mut [f32],
+    scratch: &mut [f32],
+    residual: &mut [f32],
+    direction: &mut [f32],
+    a_direction: &mut [f32],
+    z: &mut [f32],
     out: &mut Room,
 ) -> usize
     ensures { λ r. ⌜ r ≤ room ⌝ }
 {
-    let answer = response::inner::response_into(
-        n,
-        row_offsets,
-        cols,
-        diagonal,
+    let answer = made(
+        w,
         blocks,
-        perm,
-        inv_perm,
-        first,
-        row_start,
         values,
-        factored,
         preconditioner,
-        tolerance,
-        limit,
-        dense,
         pinned,
-        entries,
-        particles,
         gradients,
         solution,
         rhs,
@@ -136,7 +153,7 @@ fn call(
     );
     tell(
         answer,
-        counts,
+        record::read(w, 6, 20),
         solution,
         rhs,
         scratch,
@@ -148,28 +165,13 @@ fn call(
     )
 }
 
-// Each of these reads the next lists of the line and hands on all that is read. The counts stand behind the last.
+// Each of these lends the next lists of the line and hands on all that is lent.
 fn turned(
     w: &[u32],
-    at: usize,
-    n: usize,
-    limit: usize,
-    tolerance: f32,
-    dense: usize,
-    factored: bool,
-    entries: usize,
-    row_offsets: &[u32],
-    cols: &[u32],
-    diagonal: &[u32],
     blocks: &[f32],
-    perm: &[u32],
-    inv_perm: &[u32],
-    first: &[u32],
-    row_start: &[u32],
     values: &[f32],
     preconditioner: &[f32],
     pinned: &[u8],
-    particles: &[u32],
     gradients: &[f32],
     solution: &mut [f32],
     rhs: &mut [f32],
@@ -182,64 +184,33 @@ fn turned(
     let mut direction = [0f32; LONGEST];
     let mut a_direction = [0f32; LONGEST];
     let mut z = [0f32; LONGEST];
-    let v = next(w, at);
-    let u = next(w, v);
-    let i = reals(w, at, &mut direction);
-    let j = reals(w, v, &mut a_direction);
-    let k = reals(w, u, &mut z);
+    let i = lent_reals(w, 6, 17, &mut direction);
+    let j = lent_reals(w, 6, 18, &mut a_direction);
+    let k = lent_reals(w, 6, 19, &mut z);
     call(
-        n,
-        limit,
-        tolerance,
-        dense,
-        factored,
-        entries,
-        row_offsets,
-        cols,
-        diagonal,
+        w,
         blocks,
-        perm,
-        inv_perm,
-        first,
-        row_start,
         values,
         preconditioner,
         pinned,
-        particles,
         gradients,
         solution,
         rhs,
         scratch,
         residual,
-        &mut direction[..i],
-        &mut a_direction[..j],
-        &mut z[..k],
-        record::read(w, next(w, u)),
+        i,
+        j,
+        k,
         out,
     )
 }
 
 fn worked(
     w: &[u32],
-    at: usize,
-    n: usize,
-    limit: usize,
-    tolerance: f32,
-    dense: usize,
-    factored: bool,
-    entries: usize,
-    row_offsets: &[u32],
-    cols: &[u32],
-    diagonal: &[u32],
     blocks: &[f32],
-    perm: &[u32],
-    inv_perm: &[u32],
-    first: &[u32],
-    row_start: &[u32],
     values: &[f32],
     preconditioner: &[f32],
     pinned: &[u8],
-    particles: &[u32],
     gradients: &[f32],
     solution: &mut [f32],
     rhs: &mut [f32],
@@ -249,60 +220,29 @@ fn worked(
 {
     let mut scratch = [0f32; LONGEST];
     let mut residual = [0f32; LONGEST];
-    let v = next(w, at);
-    let i = reals(w, at, &mut scratch);
-    let j = reals(w, v, &mut residual);
+    let i = lent_reals(w, 6, 15, &mut scratch);
+    let j = lent_reals(w, 6, 16, &mut residual);
     turned(
         w,
-        next(w, v),
-        n,
-        limit,
-        tolerance,
-        dense,
-        factored,
-        entries,
-        row_offsets,
-        cols,
-        diagonal,
         blocks,
-        perm,
-        inv_perm,
-        first,
-        row_start,
         values,
         preconditioner,
         pinned,
-        particles,
         gradients,
         solution,
         rhs,
-        &mut scratch[..i],
-        &mut residual[..j],
+        i,
+        j,
         out,
     )
 }
 
 fn started(
     w: &[u32],
-    at: usize,
-    n: usize,
-    limit: usize,
-    tolerance: f32,
-    dense: usize,
-    factored: bool,
-    entries: usize,
-    row_offsets: &[u32],
-    cols: &[u32],
-    diagonal: &[u32],
     blocks: &[f32],
-    perm: &[u32],
-    inv_perm: &[u32],
-    first: &[u32],
-    row_start: &[u32],
     values: &[f32],
     preconditioner: &[f32],
     pinned: &[u8],
-    particles: &[u32],
     gradients: &[f32],
     out: &mut Room,
 ) -> usize
@@ -310,54 +250,24 @@ fn started(
 {
     let mut solution = [0f32; LONGEST];
     let mut rhs = [0f32; LONGEST];
-    let v = next(w, at);
-    let i = reals(w, at, &mut solution);
-    let j = reals(w, v, &mut rhs);
+    let i = lent_reals(w, 6, 13, &mut solution);
+    let j = lent_reals(w, 6, 14, &mut rhs);
     worked(
         w,
-        next(w, v),
-        n,
-        limit,
-        tolerance,
-        dense,
-        factored,
-        entries,
-        row_offsets,
-        cols,
-        diagonal,
         blocks,
-        perm,
-        inv_perm,
-        first,
-        row_start,
         values,
         preconditioner,
         pinned,
-        particles,
         gradients,
-        &mut solution[..i],
-        &mut rhs[..j],
+        i,
+        j,
         out,
     )
 }
 
 fn constrained(
     w: &[u32],
-    at: usize,
-    n: usize,
-    limit: usize,
-    tolerance: f32,
-    dense: usize,
-    factored: bool,
-    entries: usize,
-    row_offsets: &[u32],
-    cols: &[u32],
-    diagonal: &[u32],
     blocks: &[f32],
-    perm: &[u32],
-    inv_perm: &[u32],
-    first: &[u32],
-    row_start: &[u32],
     values: &[f32],
     preconditioner: &[f32],
     out: &mut Room,
@@ -366,160 +276,22 @@ fn constrained(
 {
     let mut pinned = [0u8; LONGEST];
     let mut gradients = [0f32; LONGEST];
-    let p = start(w, next(w, at));
-    let pe = stop(w, p);
-    let i = bytes(w, at, &mut pinned);
-    let j = reals(w, pe, &mut gradients);
-    started(
-        w,
-        next(w, pe),
-        n,
-        limit,
-        tolerance,
-        dense,
-        factored,
-        entries,
-        row_offsets,
-        cols,
-        diagonal,
-        blocks,
-        perm,
-        inv_perm,
-        first,
-        row_start,
-        values,
-        preconditioner,
-        &pinned[..i],
-        &w[p..pe],
-        &gradients[..j],
-        out,
-    )
-}
-
-fn held(
-    w: &[u32],
-    at: usize,
-    n: usize,
-    limit: usize,
-    tolerance: f32,
-    dense: usize,
-    factored: bool,
-    entries: usize,
-    row_offsets: &[u32],
-    cols: &[u32],
-    diagonal: &[u32],
-    blocks: &[f32],
-    perm: &[u32],
-    inv_perm: &[u32],
-    first: &[u32],
-    row_start: &[u32],
-    out: &mut Room,
-) -> usize
-    ensures { λ r. ⌜ r ≤ room ⌝ }
-{
-    let mut values = [0f32; LONGEST];
-    let mut preconditioner = [0f32; LONGEST];
-    let v = next(w, at);
-    let i = reals(w, at, &mut values);
-    let j = reals(w, v, &mut preconditioner);
-    constrained(
-        w,
-        next(w, v),
-        n,
-        limit,
-        tolerance,
-        dense,
-        factored,
-        entries,
-        row_offsets,
-        cols,
-        diagonal,
-        blocks,
-        perm,
-        inv_perm,
-        first,
-        row_start,
-        &values[..i],
-        &preconditioner[..j],
-        out,
-    )
-}
-
-// The plan stands behind the block values.
-fn plan(
-    w: &[u32],
-    at: usize,
-    n: usize,
-    limit: usize,
-    tolerance: f32,
-    dense: usize,
-    factored: bool,
-    entries: usize,
-    row_offsets: &[u32],
-    cols: &[u32],
-    diagonal: &[u32],
-    out: &mut Room,
-) -> usize
-    ensures { λ r. ⌜ r ≤ room ⌝ }
-{
-    let mut blocks = [0f32; LONGEST];
-    let k = reals(w, at, &mut blocks);
-    let p = start(w, next(w, at));
-    let pe = stop(w, p);
-    let i = start(w, pe);
-    let ie = stop(w, i);
-    let f = start(w, ie);
-    let fe = stop(w, f);
-    let s = start(w, fe);
-    let se = stop(w, s);
-    held(
-        w,
-        se,
-        n,
-        limit,
-        tolerance,
-        dense,
-        factored,
-        entries,
-        row_offsets,
-        cols,
-        diagonal,
-        &blocks[..k],
-        &w[p..pe],
-        &w[i..ie],
-        &w[f..fe],
-        &w[s..se],
-        out,
-    )
+    let i = lent_bytes(w, 6, 10, &mut pinned);
+    let j = lent_reals(w, 6, 12, &mut gradients);
+    started(w, blocks, values, preconditioner, i, j, out)
 }
 
 pub fn response_into(w: &[u32], out: &mut Room) -> usize
     ensures { λ r. ⌜ r ≤ room ⌝ }
 {
-    if w.len() < 6 {
-        return 0;
-    }
     if !filled(w, 6, 21) {
         return 0;
     }
-    let r = start(w, 6);
-    let re = stop(w, r);
-    let c = start(w, re);
-    let ce = stop(w, c);
-    let d = start(w, ce);
-    let de = stop(w, d);
-    plan(
-        w,
-        de,
-        wide(w[0]),
-        wide(w[1]),
-        real(w[2]),
-        wide(w[3]),
-        w[4] != 0,
-        wide(w[5]),
-        &w[r..re],
-        &w[c..ce],
-        &w[d..de],
-        out,
-    )
+    let mut blocks = [0f32; LONGEST];
+    let mut values = [0f32; LONGEST];
+    let mut preconditioner = [0f32; LONGEST];
+    let i = lent_reals(w, 6, 3, &mut blocks);
+    let j = lent_reals(w, 6, 8, &mut values);
+    let k = lent_reals(w, 6, 9, &mut preconditioner);
+    constrained(w, i, j, k, out)
 }

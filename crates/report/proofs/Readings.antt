@@ -16,20 +16,21 @@ use Rattle.shape.specs.Formed.{slotOk as columnOk, homeOk, rowOk as columnsOk, 
 use Rattle.shape.specs.Given.{patternRoom, formed}
 use Rattle.fits.specs.Fits.{backOk, undoOk, twinsOk, firstsOk, growOk, startsOk, plannedOk, slotOk, rowOk, insideOk, fitsOk}
 use Rattle.fits.specs.Given.{planRoom, lengthOf}
-use Rattle.substitution.specs.Solve.{rowSum as solvedSum, forwardBy, forwardStep, forwardOf, takenOf, backStep, backwardOf, permuted, placedOf, solveOf}
+use Rattle.passes.specs.Passes.{rowSum as solvedSum, forwardBy, forwardStep, forwardOf, takenOf, backStep, backwardOf}
+use Rattle.substitution.specs.Solve.{permuted, placedOf, solveOf}
 use Rattle.values.specs.Product.{slotStep, rowSum, productAt}
 use Rattle.turn.specs.Vectors.{product, preconditioned, advanced, retreated, redirected, lacking, scaled, zeros}
 use Rattle.turn.specs.Solve.{turn, run, rescaled, finished, freshOf, launched, started, solved}
 use Rattle.direct.specs.Solving as D
-use Rattle.gradient.specs.Settings.{settingsOk}
+use Rattle.settings.specs.Settings.{settingsOk}
 use Rattle.gradient.specs.Solving as G
-use Rattle.step.specs.Dense.{swept, planHeld, stepHeld, structural, later}
+use Rattle.routes.specs.Dense.{swept, planHeld, stepHeld, structural, later}
 use Rattle.step.specs.Stepping as S
 use Rattle.gains.specs.Entries.{entriesRoom, below, free, anyFree, loadStep, loaded, gainStep, rawGain, gainOf}
 use Rattle.response.specs.Responding as R
 use Rattle.tally.specs.declared.Tally.{Tally}
 use Rattle.tally.specs.Runs.{fresh}
-use Rattle.report.specs.Counting.{afterStep, afterResponse}
+use Rattle.counting.specs.Counting.{afterStep, afterResponse}
 
 floats : List ℕ → List Float
 floats l = map (ofBits binary32) l

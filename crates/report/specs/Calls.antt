@@ -22,7 +22,7 @@ use Rattle.step.specs.declared.Stepped.the-variants as steps
 use Rattle.step.specs.Stepping as S
 use Rattle.gains.specs.Entries.{rawGain, gainOf}
 use Rattle.response.specs.Responding as R
-use Rattle.report.specs.Counting.{askedOf, askedBy, afterStep, afterResponse}
+use Rattle.counting.specs.Counting.{askedOf, askedBy, afterStep, afterResponse}
 
 -- a call of `solve_step` or of `response_into`, with all that it is handed but the record
 abbrev pub Call : Type 0

@@ -5,9 +5,7 @@ use tally::Tally;
 ghost use Rattle.law.specs.Promise.{Counted};
 ghost use Rattle.step.specs.Stepping as stepping;
 ghost use Rattle.response.specs.Responding as responding;
-ghost use Rattle.report.specs.Counting.{afterStep, afterResponse};
-
-pub mod asked;
+ghost use Rattle.counting.specs.Counting.{afterStep, afterResponse};
 
 // A x = b by the step's factor if 2n is at most max_dense_dofs and the mark is set; otherwise x is zeroed and iterated.
 pub fn solve_step(
@@ -61,7 +59,7 @@ pub fn solve_step(
         a_direction,
         z,
     );
-    tally::count(tally, asked::by_step(r));
+    tally::count(tally, counting::asked::by_step(r));
     r
 }
 
@@ -125,6 +123,6 @@ pub fn response_into(
         a_direction,
         z,
     );
-    tally::count(tally, asked::by_response(r));
+    tally::count(tally, counting::asked::by_response(r));
     r
 }

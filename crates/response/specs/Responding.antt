@@ -11,13 +11,15 @@ use Rattle.law.specs.Limit.{particles, entries}
 use Rattle.law.specs.Room.{enough}
 use Rattle.law.specs.Refusal.{Test, unless, Rising, verdict, all-pass, none-fails}
 use Rattle.law.specs.Promise.{Door}
+use Rattle.law.specs.Said.{Said}
 use Rattle.plane.specs.Plane.{zero32}
 use Rattle.step.specs.declared.Stepped.{Stepped}
 use Rattle.step.specs.declared.Stepped.the-variants as stepped
-use Rattle.step.specs.Dense.{cleared, swept, stepHeld, structural, later}
+use Rattle.routes.specs.Dense.{cleared, swept, stepHeld, structural, later}
 use Rattle.step.specs.Stepping as S
 use Rattle.response.specs.declared.Responded.{Responded}
 use Rattle.response.specs.declared.Responded.the-variants.{Refused, Nothing, Direct, Iterated}
+use Rattle.response.specs.Said.{respondedSaid}
 use Rattle.gains.specs.Entries.{entriesRoom, below, anyFree, loaded, rawGain, gainOf, Entries, entries-of, cleared-again}
 
 pub record In : Type 0 where
@@ -50,6 +52,7 @@ pub record In : Type 0 where
 
 pub record Out : Type 0 where
   pub answer : Responded
+  pub said : Said
   pub out : List Float
   pub rhs : List Float
   pub scratch : List Float
@@ -89,7 +92,7 @@ given n starts cols diagonal blocks perm inverse first begins values factored pr
 }
 
 abbrev pub left : Responded → List Float → List Float → List Float → List Float → List Float → List Float → List Float → Out
-left r out rhs scratch residual direction a-direction z = record { answer = r; out = out; rhs = rhs; scratch = scratch; residual = residual; direction = direction; a-direction = a-direction; z = z }
+left r out rhs scratch residual direction a-direction z = record { answer = r; said = respondedSaid r; out = out; rhs = rhs; scratch = scratch; residual = residual; direction = direction; a-direction = a-direction; z = z }
 
 -- whether the plan and the factor count
 abbrev pub dense : In → Bool

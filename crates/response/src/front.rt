@@ -141,7 +141,7 @@ pub fn respond(
     }
     vectors::inner::clear(n, out);
     vectors::inner::clear(n, rhs);
-    step::front::sweep(2 * n <= max_dense_dofs, n, scratch);
-    step::front::clear4(n, residual, direction, a_direction, z);
+    routes::front::sweep(2 * n <= max_dense_dofs, n, scratch);
+    routes::front::clear4(n, residual, direction, a_direction, z);
     Responded::Nothing
 }

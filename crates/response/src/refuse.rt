@@ -41,7 +41,7 @@ pub fn responding(
         return 2;
     }
     let dense = 2 * n <= max_dense_dofs;
-    if !step::refuse::room(
+    if !routes::refuse::room(
         dense,
         n,
         row_offsets,
@@ -70,7 +70,7 @@ pub fn responding(
     if !entries::all_below(n, count, particles) {
         return 4;
     }
-    step::refuse::later(
+    routes::refuse::later(
         dense,
         n,
         row_offsets,

@@ -13,7 +13,7 @@ use Rattle.ordering.specs.Marks.{unmarked}
 use Rattle.ordering.specs.Searches.{Searched, TableOf}
 use Rattle.ordering.proofs.At.{In, getD-at}
 use Rattle.ordering.proofs.Visiting.{in-below}
-use Rattle.search.proofs.Exploring.{sound, queue-short}
+use Rattle.breadth.proofs.Exploring.{sound, queue-short}
 
 pub keys-are : (starts cols : List ℕ) (n : ℕ) (degrees : List ℕ) → TableOf starts cols n degrees → keyOf degrees ≡ degree (neighbours starts cols)
 keys-are starts cols n degrees t = fun-ext (λ v. t .each v)

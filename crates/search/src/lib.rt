@@ -1,3 +1,2 @@
-// The breadth-first search over the particles that are not placed, and where a stretch starts.
-mod search;
+// Where a stretch starts.
 pub mod start;

@@ -1,5 +1,5 @@
 // Where a stretch starts: the unplaced particle of least (degree, index), moved to the far end while that goes deeper.
-use crate::search;
+use breadth::search;
 use ordering::sort;
 use ordering::tables;
 ghost use mathlib.Core.Path.{_≡_};

@@ -1,16 +1,14 @@
 // The picture program: a text as the bench program reads it, from standard input; the pattern before and after ordering as a portable bitmap, to standard output.
-use sketch::Sketched;
+use sketch::inner::Sketched;
 ghost use mathlib.Core.Path.{_≡_};
 ghost use Prim.Native.Nat.{_*_, _≤_};
 ghost use lib.ListN.{length};
 ghost use Rattle.law.specs.Limit.{particles};
-ghost use Rattle.desk.specs.Drawn.{Sheet};
+ghost use Rattle.drawing.specs.Drawn.{Sheet};
 ghost use Rattle.desk.specs.Read.{numbersRoom};
 ghost use Rattle.picture.specs.Ready.{lineRoom};
 
 mod output;
-mod planning;
-mod sketch;
 
 // By what the text came to.
 fn reply_in(
@@ -26,7 +24,7 @@ fn reply_in(
 )
     requires { ⌜ (length (now numbers) ≡ numbersRoom) × (Sheet (now «row_offsets») (now cols) (now diagonal) (now work) (now order) × ((2 * particles ≤ length (now first)) × (lineRoom particles ≤ length (now line)))) ⌝ }
 {
-    let came = sketch::sketch(
+    let came = sketch::inner::sketch(
         text,
         numbers,
         row_offsets,

@@ -16,13 +16,15 @@ use Rattle.shape.specs.Formed.{slotOk as columnOk, homeOk, rowOk as columnsOk, 
 use Rattle.shape.specs.Given.{patternRoom, formed}
 use Rattle.fits.specs.Fits.{backOk, undoOk, twinsOk, firstsOk, growOk, startsOk, plannedOk, slotOk, rowOk, insideOk, fitsOk}
 use Rattle.fits.specs.Given.{planRoom, lengthOf}
-use Rattle.factor.specs.Factor.{later, reducedOf, entryOf, entryStep, leftOf, squareStep, pivotOf, closeOf, rowOf, rowStep, factorOf}
-use Rattle.factor.specs.Load.{besideOf, cornerOf, slotInto, slotsInto, rowInto, loadOf, matrixOf}
+use Rattle.load.specs.Load.{besideOf, cornerOf, slotInto, slotsInto, rowInto, loadOf}
+use Rattle.entries.specs.Row.{later, reducedOf, entryOf, entryStep, leftOf, squareStep, pivotOf}
+use Rattle.factor.specs.Factor.{closeOf, rowOf, rowStep, factorOf}
+use Rattle.factor.specs.Matrix.{matrixOf}
 use Rattle.turn.specs.Inverse.{orIdentity, inverseAt}
 use Rattle.direct.specs.Factorizing as F
 use Rattle.gradient.specs.Updating as U
 use Rattle.step.specs.declared.Marked.the-variants.{Refused, Direct, Failed, Iterative}
-use Rattle.step.specs.Dense.{planHeld, structural}
+use Rattle.routes.specs.Dense.{planHeld, structural}
 use Rattle.step.specs.Marking.{Out, given, left, refusals, renewed, work, door}
 
 abbrev two : Float

@@ -1,3 +1,3 @@
-pub mod Dense
+pub mod Said
 pub mod Stepping
 pub mod Marking

@@ -13,6 +13,7 @@ use Rattle.law.specs.Room.{enough, enough-is, enough-of}
 use Rattle.law.specs.Truth.{both}
 use Rattle.law.specs.Refusal.{Test, unless, Rising, verdict, all-pass, none-fails, when, when-is}
 use Rattle.law.specs.Promise.{Door}
+use Rattle.law.specs.Said.{Said}
 use Rattle.shape.specs.Given.{patternRoom}
 use Rattle.fits.specs.Given.{planRoom}
 use Rattle.turn.specs.Inverse.{inverseAt}
@@ -22,7 +23,8 @@ use Rattle.direct.specs.Factorizing as F
 use Rattle.gradient.specs.Updating as U
 use Rattle.step.specs.declared.Marked.{Marked}
 use Rattle.step.specs.declared.Marked.the-variants.{Refused, Direct, Failed, Iterative}
-use Rattle.step.specs.Dense.{planHeld, structural, held-values}
+use Rattle.step.specs.Said.{markedSaid}
+use Rattle.routes.specs.Dense.{planHeld, structural, held-values}
 
 pub record In : Type 0 where
   pub n : ℕ
@@ -40,6 +42,7 @@ pub record In : Type 0 where
 
 pub record Out : Type 0 where
   pub answer : Marked
+  pub said : Said
   pub values : List Float
   pub preconditioner : List Float
 
@@ -60,7 +63,7 @@ given n starts cols diagonal blocks perm inverse first begins max-dense-dofs val
 }
 
 abbrev pub left : Marked → List Float → List Float → Out
-left r values preconditioner = record { answer = r; values = values; preconditioner = preconditioner }
+left r values preconditioner = record { answer = r; said = markedSaid r; values = values; preconditioner = preconditioner }
 
 -- whether the plan and the factor count
 abbrev pub dense : In → Bool

@@ -11,6 +11,7 @@ use borrow.Author.Tests.{leb-true}
 use Rattle.law.specs.Limit.{particles}
 use Rattle.law.specs.Refusal.{Test, unless, Rising, verdict, all-pass, none-fails, when-is}
 use Rattle.law.specs.Promise.{Door}
+use Rattle.law.specs.Said.{Said}
 use Rattle.fits.specs.Given.{lengthOf}
 use Rattle.turn.specs.declared.Outcome.{Outcome}
 use Rattle.direct.specs.declared.Solved as direct
@@ -20,7 +21,8 @@ use Rattle.gradient.specs.declared.Solved.the-variants as gradients
 use Rattle.gradient.specs.Solving as G
 use Rattle.step.specs.declared.Stepped.{Stepped}
 use Rattle.step.specs.declared.Stepped.the-variants.{Refused, Direct, Iterated}
-use Rattle.step.specs.Dense.{cleared, swept, stepHeld, structural, later, held-values, plan-held, step-held}
+use Rattle.step.specs.Said.{steppedSaid}
+use Rattle.routes.specs.Dense.{cleared, swept, stepHeld, structural, later, held-values, plan-held, step-held}
 
 pub record In : Type 0 where
   pub n : ℕ
@@ -48,6 +50,7 @@ pub record In : Type 0 where
 
 pub record Out : Type 0 where
   pub answer : Stepped
+  pub said : Said
   pub x : List Float
   pub scratch : List Float
   pub residual : List Float
@@ -82,7 +85,7 @@ given n starts cols diagonal blocks perm inverse first begins values factored pr
 }
 
 abbrev pub left : Stepped → List Float → List Float → List Float → List Float → List Float → List Float → Out
-left r x scratch residual direction a-direction z = record { answer = r; x = x; scratch = scratch; residual = residual; direction = direction; a-direction = a-direction; z = z }
+left r x scratch residual direction a-direction z = record { answer = r; said = steppedSaid r; x = x; scratch = scratch; residual = residual; direction = direction; a-direction = a-direction; z = z }
 
 -- whether the plan and the factor count
 abbrev pub dense : In → Bool

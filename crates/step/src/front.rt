@@ -2,75 +2,12 @@
 use crate::Marked;
 use crate::Stepped;
 use direct::Factored;
-use turn::Outcome;
 ghost use mathlib.Core.Path.{_≡_};
-ghost use mathlib.Core.Bool.{true};
 ghost use Prim.Native.Nat.{_*_, _≤_};
 ghost use lib.ListN.{length};
 ghost use Rattle.turn.specs.Inverse.{Slots};
-ghost use Rattle.gradient.specs.declared.Solved.the-variants.{Ran};
-ghost use Rattle.gradient.specs.Solving as G;
-ghost use Rattle.step.specs.Dense.{cleared, swept};
 ghost use Rattle.step.specs.Stepping as stepping;
 ghost use Rattle.step.specs.Marking as marking;
-
-pub fn clear4(n: usize, a: &mut [f32], b: &mut [f32], c: &mut [f32], d: &mut [f32])
-    requires { ⌜ (2 * n ≤ length (now a)) × (2 * n ≤ length (now b)) × (2 * n ≤ length (now c)) × (2 * n ≤ length (now d)) ⌝ }
-    ensures { λ _. ⌜ (now (a .exit) ≡ cleared n (now (a .entry))) × (now (b .exit) ≡ cleared n (now (b .entry))) × (now (c .exit) ≡ cleared n (now (c .entry))) × (now (d .exit) ≡ cleared n (now (d .entry))) ⌝ }
-{
-    vectors::inner::clear(n, a);
-    vectors::inner::clear(n, b);
-    vectors::inner::clear(n, c);
-    vectors::inner::clear(n, d);
-}
-
-// The scratch is a work buffer only where the plan counts.
-pub fn sweep(dense: bool, n: usize, scratch: &mut [f32])
-    requires { ⌜ (dense ≡ true → 2 * n ≤ length (now scratch)) ⌝ }
-    ensures { λ _. ⌜ now (scratch .exit) ≡ swept dense n (now (scratch .entry)) ⌝ }
-{
-    if dense {
-        vectors::inner::clear(n, scratch);
-    }
-}
-
-fn iterate(
-    n: usize,
-    row_offsets: &[u32],
-    cols: &[u32],
-    diagonal: &[u32],
-    blocks: &[f32],
-    preconditioner: &[f32],
-    b: &[f32],
-    tolerance: f32,
-    max_iterations: usize,
-    x: &mut [f32],
-    residual: &mut [f32],
-    direction: &mut [f32],
-    a_direction: &mut [f32],
-    z: &mut [f32],
-) -> Outcome
-    requires { ⌜ G.Ready (G.given n (now «row_offsets») (now cols) (now diagonal) (now blocks) (now preconditioner) (now b) tolerance «max_iterations» (now x) (now residual) (now direction) (now «a_direction») (now z)) ⌝ }
-    ensures { λ o. ⌜ G.left (Ran o) (now (x .exit)) (now (residual .exit)) (now (direction .exit)) (now («a_direction» .exit)) (now (z .exit)) ≡ G.work (G.given n (now («row_offsets» .entry)) (now (cols .entry)) (now (diagonal .entry)) (now (blocks .entry)) (now (preconditioner .entry)) (now (b .entry)) tolerance «max_iterations» (cleared n (now (x .entry))) (now (residual .entry)) (now (direction .entry)) (now («a_direction» .entry)) (now (z .entry))) ⌝ }
-{
-    vectors::inner::clear(n, x);
-    gradient::front::solve(
-        n,
-        row_offsets,
-        cols,
-        diagonal,
-        blocks,
-        preconditioner,
-        b,
-        tolerance,
-        max_iterations,
-        x,
-        residual,
-        direction,
-        a_direction,
-        z,
-    )
-}
 
 // By the factor if the plan counts and the mark is set; otherwise x is zeroed and iterated.
 pub fn route(
@@ -103,10 +40,10 @@ pub fn route(
     let dense = 2 * n <= max_dense_dofs;
     if dense & factored {
         direct::front::solve(n, perm, inv_perm, first, row_start, values, b, x, scratch);
-        clear4(n, residual, direction, a_direction, z);
+        routes::front::clear4(n, residual, direction, a_direction, z);
         return Stepped::Direct;
     }
-    let o = iterate(
+    let o = routes::front::iterate(
         n,
         row_offsets,
         cols,
@@ -122,7 +59,7 @@ pub fn route(
         a_direction,
         z,
     );
-    sweep(dense, n, scratch);
+    routes::front::sweep(dense, n, scratch);
     Stepped::Iterated(o)
 }
 
@@ -142,7 +79,7 @@ fn settle(
         Factored::Refused(no) => Marked::Refused(no),
         Factored::Done => Marked::Direct,
         Factored::Failed { row, pivot } => {
-            turn::inner::update_preconditioner(n, diagonal, blocks, preconditioner);
+            inverses::inner::update_preconditioner(n, diagonal, blocks, preconditioner);
             Marked::Failed { row, pivot }
         }
     }
@@ -180,6 +117,6 @@ pub fn mark(
         );
         return settle(n, diagonal, blocks, how, preconditioner);
     }
-    turn::inner::update_preconditioner(n, diagonal, blocks, preconditioner);
+    inverses::inner::update_preconditioner(n, diagonal, blocks, preconditioner);
     Marked::Iterative
 }

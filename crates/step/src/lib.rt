@@ -4,7 +4,6 @@ use turn::Outcome;
 ghost use Rattle.law.specs.Promise.{Promise};
 ghost use Rattle.step.specs.Marking as marking;
 
-pub mod dense;
 pub mod front;
 pub mod inner;
 pub mod refuse;

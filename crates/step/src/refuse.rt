@@ -1,131 +1,8 @@
 // The numbers that calls are refused by. Tests run in phases, so that none reads past a list's end.
-use crate::dense;
 ghost use mathlib.Core.Path.{_≡_};
-ghost use Prim.Native.Nat.{_≤_};
-ghost use Rattle.law.specs.Limit.{particles};
 ghost use Rattle.law.specs.Refusal.{verdict};
-ghost use Rattle.step.specs.Dense.{stepHeld, structural, later, Roomy};
 ghost use Rattle.step.specs.Stepping as stepping;
 ghost use Rattle.step.specs.Marking as marking;
-
-// Whether a step solve's lists have room.
-pub fn room(
-    dense: bool,
-    n: usize,
-    row_offsets: &[u32],
-    cols: &[u32],
-    diagonal: &[u32],
-    blocks: &[f32],
-    perm: &[u32],
-    inv_perm: &[u32],
-    first: &[u32],
-    row_start: &[u32],
-    values: &[f32],
-    preconditioner: &[f32],
-    b: &[f32],
-    x: &[f32],
-    scratch: &[f32],
-    residual: &[f32],
-    direction: &[f32],
-    a_direction: &[f32],
-    z: &[f32],
-) -> bool
-    requires { ⌜ n ≤ particles ⌝ }
-    ensures { λ r. ⌜ r ≡ stepHeld dense n (now («row_offsets» .entry)) (now (cols .entry)) (now (diagonal .entry)) (now (blocks .entry)) (now (perm .entry)) (now («inv_perm» .entry)) (now (first .entry)) (now («row_start» .entry)) (now (values .entry)) (now (preconditioner .entry)) (now (b .entry)) (now (x .entry)) (now (scratch .entry)) (now (residual .entry)) (now (direction .entry)) (now («a_direction» .entry)) (now (z .entry)) ⌝ }
-{
-    if !checked::given::pattern_room(n, row_offsets, cols, diagonal) {
-        return false;
-    }
-    if !gradient::refuse::vectors_room(
-        n,
-        row_offsets,
-        blocks,
-        preconditioner,
-        b,
-        x,
-        residual,
-        direction,
-        a_direction,
-        z,
-    ) {
-        return false;
-    }
-    dense::plan_room(dense, n, perm, inv_perm, first, row_start, values)
-        & dense::scratch_room(dense, n, scratch)
-}
-
-// Pattern and plan, once every list has its room.
-fn structure(
-    dense: bool,
-    n: usize,
-    row_offsets: &[u32],
-    cols: &[u32],
-    diagonal: &[u32],
-    perm: &[u32],
-    inv_perm: &[u32],
-    first: &[u32],
-    row_start: &[u32],
-) -> u8
-    requires { ⌜ Roomy dense n (now «row_offsets») (now cols) (now diagonal) (now perm) (now «inv_perm») (now first) (now «row_start») ⌝ }
-    ensures { λ r. ⌜ r ≡ verdict (structural dense n (now («row_offsets» .entry)) (now (cols .entry)) (now (diagonal .entry)) (now (perm .entry)) (now («inv_perm» .entry)) (now (first .entry)) (now («row_start» .entry))) ⌝ }
-{
-    if !checked::given::pattern_formed(n, row_offsets, cols, diagonal) {
-        return 5;
-    }
-    if !dense::plan_fits(
-        dense,
-        n,
-        row_offsets,
-        cols,
-        perm,
-        inv_perm,
-        first,
-        row_start,
-    ) {
-        return 6;
-    }
-    if !dense::plan_short(dense, n, perm, inv_perm, first, row_start) {
-        return 7;
-    }
-    0
-}
-
-// The last four tests of a step solve.
-pub fn later(
-    dense: bool,
-    n: usize,
-    row_offsets: &[u32],
-    cols: &[u32],
-    diagonal: &[u32],
-    perm: &[u32],
-    inv_perm: &[u32],
-    first: &[u32],
-    row_start: &[u32],
-    tolerance: f32,
-    max_iterations: usize,
-) -> u8
-    requires { ⌜ Roomy dense n (now «row_offsets») (now cols) (now diagonal) (now perm) (now «inv_perm») (now first) (now «row_start») ⌝ }
-    ensures { λ r. ⌜ r ≡ verdict (later dense n (now («row_offsets» .entry)) (now (cols .entry)) (now (diagonal .entry)) (now (perm .entry)) (now («inv_perm» .entry)) (now (first .entry)) (now («row_start» .entry)) tolerance «max_iterations») ⌝ }
-{
-    let no = structure(
-        dense,
-        n,
-        row_offsets,
-        cols,
-        diagonal,
-        perm,
-        inv_perm,
-        first,
-        row_start,
-    );
-    if no != 0 {
-        return no;
-    }
-    if !gradient::refuse::settings_ok(tolerance, max_iterations) {
-        return 8;
-    }
-    0
-}
 
 pub fn stepping(
     n: usize,
@@ -157,7 +34,7 @@ pub fn stepping(
         return 1;
     }
     let dense = 2 * n <= max_dense_dofs;
-    if !room(
+    if !routes::refuse::room(
         dense,
         n,
         row_offsets,
@@ -180,7 +57,7 @@ pub fn stepping(
     ) {
         return 3;
     }
-    later(
+    routes::refuse::later(
         dense,
         n,
         row_offsets,
@@ -217,14 +94,14 @@ pub fn marking(
     if !checked::given::pattern_room(n, row_offsets, cols, diagonal) {
         return 3;
     }
-    if !gradient::refuse::inverses_room(n, row_offsets, blocks, preconditioner) {
+    if !admitted::refuse::inverses_room(n, row_offsets, blocks, preconditioner) {
         return 3;
     }
     let dense = 2 * n <= max_dense_dofs;
-    if !dense::plan_room(dense, n, perm, inv_perm, first, row_start, values) {
+    if !routes::dense::plan_room(dense, n, perm, inv_perm, first, row_start, values) {
         return 3;
     }
-    structure(
+    routes::refuse::structure(
         dense,
         n,
         row_offsets,

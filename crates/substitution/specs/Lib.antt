@@ -1,3 +1,3 @@
 pub mod Solve
-pub mod Held
+pub mod Calls
 pub mod Meaning

@@ -12,7 +12,8 @@ use Rattle.law.specs.Decimal.{value, valueFrom}
 use Rattle.law.specs.Limit.{particles, pairs, bytes as byteLimit}
 use Rattle.law.specs.Refusal.{verdict}
 use Rattle.law.specs.Truth.{both, and-true}
-use Rattle.text.specs.Text.{isGap, allowed, before, pieces, filled, numbers, largest, small, counted, described, pairCount}
+use Rattle.scan.specs.Numbers.{isGap, allowed, before, pieces, filled, numbers, largest, small}
+use Rattle.text.specs.Text.{counted, described, pairCount}
 use Rattle.text.specs.Reading.{In, refusals, tests, numberOf}
 
 -- ---- a text's numbers: these three laws leave `numbers` no choice

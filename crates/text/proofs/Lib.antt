@@ -1,5 +1,3 @@
-mod Turn
-mod Scanning
 mod Passes
 mod Language
 mod Readings

@@ -13,16 +13,17 @@ use Rattle.law.specs.Limit.{bytes as byteLimit}
 use Rattle.law.specs.Refusal.{verdict, all-pass}
 use Rattle.law.specs.Store.{written, written-whole}
 use Rattle.law.specs.Truth.{both}
-use Rattle.text.specs.Text.{allowed, numbers, small, counted, described, particleCount, pairCount, pairNumbers, Known}
-use Rattle.text.specs.Scan.{State, placeTo, scanTo}
+use Rattle.scan.specs.Numbers.{allowed, numbers, small}
+use Rattle.scan.specs.Scan.{State, placeTo, scanTo}
+use Rattle.scan.specs.Scanning.{placeAll, scan-right}
+use Rattle.scan.specs.declared.inner.Scan.{Scan}
+use Rattle.scan.specs.declared.inner.Scan.the-variants.{Bad, Gap, Word}
+use Rattle.text.specs.Text.{counted, described, particleCount, pairCount, pairNumbers, Known}
 use Rattle.text.specs.Head.{headOf, countedOf}
 use Rattle.text.specs.Reading.{tests, given, left, work, pair-numbers}
-use Rattle.text.specs.declared.scan.Scan.{Scan}
-use Rattle.text.specs.declared.scan.Scan.the-variants.{Bad, Gap, Word}
 use Rattle.text.specs.declared.head.Head.{Head}
 use Rattle.text.specs.declared.head.Head.the-variants.{None, Counts}
 use Rattle.text.specs.declared.Input.the-variants.{Text}
-use Rattle.text.proofs.Scanning.{placeAll, scan-right}
 
 -- ---- the first pass, into a room of two
 

@@ -7,7 +7,8 @@ use Rattle.law.specs.Bytes.{bytes}
 use Rattle.law.specs.Decimal.{value, valueFrom}
 use Rattle.law.specs.All.{all}
 use Rattle.law.specs.Refusal.{verdict}
-use Rattle.text.specs.Text.{isGap, isDigit, allowed, before, pieces, filled, numbers, small, counted, described}
+use Rattle.scan.specs.Numbers.{isGap, isDigit, allowed, before, pieces, filled, numbers, small}
+use Rattle.text.specs.Text.{counted, described}
 use Rattle.text.specs.Reading.{Out, given, left, tests, work, numberOf, outcomeOf}
 use Rattle.text.specs.declared.Input.the-variants.{Refused, Text}
 

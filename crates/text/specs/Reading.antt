@@ -13,7 +13,8 @@ use Rattle.law.specs.Limit.{particles, pairs, bytes as byteLimit}
 use Rattle.law.specs.Refusal.{Test, unless, Rising, verdict, all-pass}
 use Rattle.law.specs.Promise.{Door, by, outcome, Promise}
 use Rattle.law.specs.Truth.{both}
-use Rattle.text.specs.Text.{allowed, numbers, small, counted, described, particleCount, pairCount, pairNumbers}
+use Rattle.scan.specs.Numbers.{allowed, numbers, small}
+use Rattle.text.specs.Text.{counted, described, particleCount, pairCount, pairNumbers}
 use Rattle.text.specs.declared.Input.{Input}
 use Rattle.text.specs.declared.Input.the-variants.{Refused, Text}
 

@@ -1,50 +1,13 @@
--- THE LANGUAGE OF THE BENCH PROGRAM'S TEXT: the numbers that a text's bytes stand for, and when the text is as document 01 describes it.
+-- THE LANGUAGE OF THE BENCH PROGRAM'S TEXT: when a text is as document 01 describes it, and what it then says.
 use Prim.Native.Nat.{ℕ, _*_}
 use mathlib.Core.Path.{_≡_}
-use mathlib.Core.Bool.{Bool, true, false, cond, _&&_, _||_}
-use mathlib.Core.List.{List, [], _∷_, map}
+use mathlib.Core.Bool.{Bool, true, false, _&&_}
+use mathlib.Core.List.{List, [], _∷_}
 use lib.ListN.{length, getD, drop}
 use lib.Dec.{leb, eqb}
 use Rattle.law.specs.All.{all}
-use Rattle.law.specs.Decimal.{value}
 use Rattle.law.specs.Limit.{bytes as byteLimit}
-
--- a space or a newline
-unfoldable pub isGap : ℕ → Bool
-isGap b = eqb b 32 || eqb b 10
-
-unfoldable pub isDigit : ℕ → Bool
-isDigit b = leb 48 b && leb b 57
-
-unfoldable pub allowed : ℕ → Bool
-allowed b = isGap b || isDigit b
-
--- a byte put before the first piece
-unfoldable pub before : ℕ → List (List ℕ) → List (List ℕ)
-before b [] = (b ∷ []) ∷ []
-before b (w ∷ ws) = (b ∷ w) ∷ ws
-
--- what stands before, between and after the separators, empty pieces too
-unfoldable pub pieces : List ℕ → List (List ℕ)
-pieces [] = [] ∷ []
-pieces (b ∷ s) = cond (isGap b) ([] ∷ pieces s) (before b (pieces s))
-
--- those that are not empty
-unfoldable pub filled : List (List ℕ) → List (List ℕ)
-filled [] = []
-filled ([] ∷ ws) = filled ws
-filled ((b ∷ w) ∷ ws) = (b ∷ w) ∷ filled ws
-
--- the numbers of a text, in order
-unfoldable pub numbers : List ℕ → List ℕ
-numbers s = map value (filled (pieces s))
-
--- each at most
-abbrev pub largest : ℕ
-largest = 4294967295
-
-unfoldable pub small : ℕ → Bool
-small v = leb v largest
+use Rattle.scan.specs.Numbers.{allowed, numbers, small}
 
 -- n, the pair count p, then 2p numbers
 unfoldable pub counted : List ℕ → Bool

@@ -1,5 +1,5 @@
 // The first pass: a text's two counts, if the text is as described.
-use crate::scan::Scan;
+use scan::inner::Scan;
 ghost use mathlib.Core.Path.{_≡_};
 ghost use Rattle.text.specs.Head.{headOf, countedOf};
 
@@ -26,7 +26,7 @@ pub fn head_of(text: &[u8]) -> Head
         return Head::None;
     }
     let mut two = [0u32; 2];
-    let s = crate::scan::scanned(text, 0, &mut two);
+    let s = scan::inner::scanned(text, 0, &mut two);
     match s {
         Scan::Bad => Head::None,
         Scan::Word(_, _) => Head::None,

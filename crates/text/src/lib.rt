@@ -8,7 +8,6 @@ ghost use Rattle.text.specs.Text.{Known};
 ghost use Rattle.text.specs.Reading.{tests, given, left, door, Reads};
 
 mod head;
-mod scan;
 
 pub enum Input {
     Refused(u8),
@@ -42,7 +41,7 @@ fn taken(n: usize, pairs: usize, text: &[u8], numbers: &mut [u32]) -> Input
         return Input::Refused(no);
     }
     let m = 2 * pairs;
-    scan::scanned(text, 2, &mut numbers[..m]);
+    scan::inner::scanned(text, 2, &mut numbers[..m]);
     Input::Text { n, pairs }
 }
 

@@ -1,5 +1,6 @@
 // The lists of a line, behind its plain numbers: each is its length and its items. A list that the line doesn't have in full ends
-// where the line does, but then `filled` says no.
+// where the line does, but then `filled` says no. Lists are asked for by how many plain numbers and how many lists stand before them,
+// and come as slices, so that whoever asks has no place to keep and nothing to show of it.
 ghost use Prim.Native.Nat.{_≤_};
 ghost use lib.ListN.{length};
 ghost use Rattle.tokens.specs.Front.{Front};
@@ -8,15 +9,20 @@ use crate::word::real;
 // The longest list that is taken: building with all the pairs that may be given needs about as much.
 pub const LONGEST: usize = 8256;
 
+// The i-th plain number; 0 where the line is too short for it.
+pub fn plain(w: &[u32], i: usize) -> u32 {
+    if i < w.len() { w[i] } else { 0 }
+}
+
 // Where the items of the list at `at` start.
-pub fn start(w: &[u32], at: usize) -> usize
+fn start(w: &[u32], at: usize) -> usize
     ensures { λ r. ⌜ r ≤ length (now (w .entry)) ⌝ }
 {
     if at < w.len() { at + 1 } else { w.len() }
 }
 
 // Where the items end that start here, by the length that stands before them; the next list is there.
-pub fn stop(w: &[u32], start: usize) -> usize
+fn stop(w: &[u32], start: usize) -> usize
     requires { ⌜ start ≤ length (now w) ⌝ }
     ensures { λ r. ⌜ (start ≤ r) × (r ≤ length (now (w .entry))) ⌝ }
 {
@@ -31,11 +37,27 @@ pub fn stop(w: &[u32], start: usize) -> usize
 }
 
 // The place of the list behind the one at `at`.
-pub fn next(w: &[u32], at: usize) -> usize {
+fn next(w: &[u32], at: usize) -> usize {
     stop(w, start(w, at))
 }
 
-// The same, but usize::MAX if the line doesn't have the list at `at` in full, or if that is too long.
+// The place behind so many lists from `at` on.
+fn behind_all(w: &[u32], at: usize, lists: usize) -> usize {
+    let mut to = at;
+    for _ in 0..lists {
+        to = next(w, to);
+    }
+    to
+}
+
+// The items of the list that has `lists` lists before it, behind `at` plain numbers.
+pub fn wholes(w: &[u32], at: usize, lists: usize) -> &[u32] {
+    let a = start(w, behind_all(w, at, lists));
+    let b = stop(w, a);
+    &w[a..b]
+}
+
+// As next, but usize::MAX if the line doesn't have the list at `at` in full, or if that is too long.
 fn behind(w: &[u32], at: usize) -> usize {
     if at >= w.len() {
         return usize::MAX;
@@ -106,27 +128,28 @@ fn copy_bytes(items: &[u32], to: &mut [u8]) -> usize
     n
 }
 
-// The items of the list at `at` into a buffer's front, and how many they are.
-pub fn wholes(w: &[u32], at: usize, to: &mut [u32]) -> usize
-    ensures { λ r. ⌜ Front r (now (to .exit)) ⌝ }
-{
-    let a = start(w, at);
-    let b = stop(w, a);
-    copy_wholes(&w[a..b], to)
+// The same items, in a buffer's front.
+pub fn lent_wholes<'w, 'a>(
+    w: &'w [u32],
+    at: usize,
+    lists: usize,
+    to: &'a mut [u32],
+) -> &'a mut [u32] {
+    let n = copy_wholes(wholes(w, at, lists), to);
+    &mut to[..n]
 }
 
-pub fn reals(w: &[u32], at: usize, to: &mut [f32]) -> usize
-    ensures { λ r. ⌜ Front r (now (to .exit)) ⌝ }
-{
-    let a = start(w, at);
-    let b = stop(w, a);
-    copy_reals(&w[a..b], to)
+pub fn lent_reals<'w, 'a>(
+    w: &'w [u32],
+    at: usize,
+    lists: usize,
+    to: &'a mut [f32],
+) -> &'a mut [f32] {
+    let n = copy_reals(wholes(w, at, lists), to);
+    &mut to[..n]
 }
 
-pub fn bytes(w: &[u32], at: usize, to: &mut [u8]) -> usize
-    ensures { λ r. ⌜ Front r (now (to .exit)) ⌝ }
-{
-    let a = start(w, at);
-    let b = stop(w, a);
-    copy_bytes(&w[a..b], to)
+pub fn lent_bytes<'w, 'a>(w: &'w [u32], at: usize, lists: usize, to: &'a mut [u8]) -> &'a mut [u8] {
+    let n = copy_bytes(wholes(w, at, lists), to);
+    &mut to[..n]
 }

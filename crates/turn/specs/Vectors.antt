@@ -1,5 +1,5 @@
--- VECTORS OF EXACTLY 2 * n FLOATS: the matrix and the preconditioner as functions on them, and the solver's steps; and that these are what the loops of `plane` and `values` leave in
--- a buffer of that length.
+-- VECTORS OF EXACTLY 2 * n FLOATS: the matrix and the preconditioner as functions on them, and the solver's steps; and that these are what the loops of `vectors`, `multiples` and `values`
+-- leave in a buffer of that length.
 use Prim.Native.Nat.{ℕ, zero, suc, _+_, _*_, _≤_, _<_}
 use native.Mathlib.Omega.{arith}
 use native.Mathlib.Nat.{add-zero}
@@ -11,7 +11,8 @@ use Rattle.law.specs.Gather.{gather}
 use Rattle.law.specs.Mix.{mix, mix-of, mix-whole}
 use Rattle.plane.specs.Plane.{zeroOf}
 use Rattle.plane.specs.Lent.{vectorAt}
-use Rattle.vectors.specs.Whole.{advancedAt, retreatedAt, redirectedAt, lackAt, scaledAt, preconditionedAt}
+use Rattle.vectors.specs.Whole.{lackAt}
+use Rattle.multiples.specs.Multiples.{advancedAt, retreatedAt, redirectedAt, scaledAt, preconditionedAt}
 use Rattle.shape.specs.Rows.{at, Rows}
 use Rattle.values.specs.Product.{productAt}
 

@@ -30,7 +30,7 @@ pub fn run(
     let mut rz = rz0;
     let mut count: usize = 0;
     while count < limit {
-        let t = turn::inner::iterate(
+        let t = iteration::inner::iterate(
             n,
             row_offsets,
             cols,

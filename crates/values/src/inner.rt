@@ -5,10 +5,9 @@ ghost use Prim.Native.Nat.{_+_, _*_, _≤_, _<_};
 ghost use lib.ListN.{length};
 ghost use Rattle.law.specs.Mix.{mix};
 ghost use Rattle.plane.specs.Lent.{flat};
-ghost use Rattle.shape.specs.Rows.{at, Rows, Pattern};
+ghost use Rattle.shape.specs.Rows.{at, Rows};
 ghost use Rattle.values.specs.Product.{slotStep, rowSum, productAt, Reach};
-ghost use Rattle.values.specs.Dirichlet.{zeroBlock, pinned};
-ghost use Rattle.values.specs.Mirrors.{crossed, Cross};
+ghost use Rattle.values.specs.Dirichlet.{zeroBlock};
 
 // A row's sum and one slot more: its block times the vector's part that its column names.
 fn add_slot(cols: &[u32], blocks: &[f32], x: &[f32], k: usize, sum: Vector) -> Vector
@@ -61,39 +60,4 @@ pub fn clear_values(m: usize, blocks: &mut [f32])
     for k in 0..m {
         vectors::inner::set_block(blocks, k, [[0.0, 0.0], [0.0, 0.0]]);
     }
-}
-
-// Slot k of a row and its mirror, the row's slot in the row that the slot's column names, set to zero. On the diagonal the two are one.
-fn clear_cross(row_offsets: &[u32], cols: &[u32], row: u32, k: usize, blocks: &mut [f32])
-    requires { ⌜ Cross (now «row_offsets») (now cols) row k (now blocks) ⌝ }
-    ensures { λ _. ⌜ now (blocks .exit) ≡ crossed (now («row_offsets» .entry)) (now (cols .entry)) row k (now (blocks .entry)) ⌝ }
-{
-    let c = law::wide(cols[k]);
-    let mirror = law::wide(shape::index::block_index(row_offsets, cols, c, row));
-    vectors::inner::set_block(blocks, k, [[0.0, 0.0], [0.0, 0.0]]);
-    vectors::inner::set_block(blocks, mirror, [[0.0, 0.0], [0.0, 0.0]]);
-}
-
-// A row pinned: identity on its diagonal, zero in the rest of the row and in its mirrors.
-pub fn make_dirichlet(
-    n: usize,
-    row_offsets: &[u32],
-    cols: &[u32],
-    diagonal: &[u32],
-    row: usize,
-    blocks: &mut [f32],
-)
-    requires { ⌜ Pattern n (now «row_offsets») (now cols) (now diagonal) ⌝ }
-    requires { ⌜ row < n ⌝ }
-    requires { ⌜ 4 * at (now «row_offsets») n ≤ length (now blocks) ⌝ }
-    ensures { λ _. ⌜ now (blocks .exit) ≡ mix 4 (at (now («row_offsets» .entry)) n) (pinned (now («row_offsets» .entry)) (now (cols .entry)) row (now (blocks .entry))) (now (blocks .entry)) ⌝ }
-{
-    let start = law::wide(row_offsets[row]);
-    let end = law::wide(row_offsets[row + 1]);
-    let col = row as u32;
-    for k in start..end {
-        clear_cross(row_offsets, cols, col, k, blocks);
-    }
-    let slot = law::wide(diagonal[row]);
-    vectors::inner::set_block(blocks, slot, [[1.0, 0.0], [0.0, 1.0]]);
 }

@@ -1,2 +1,2 @@
-// The values of a block matrix: its product with a vector, clearing, and pinned rows.
+// The values of a block matrix: its product with a vector, and clearing.
 pub mod inner;

@@ -1,4 +1,4 @@
--- WHOLE VECTORS, one part to a particle, in lists of 2 * n floats: the sums and the in-place steps that the solvers are made of.
+-- WHOLE VECTORS, one part to a particle, in lists of 2 * n floats: their sum of products, their difference, and one turn of a loop that changes them in place.
 use Prim.Native.Nat.{ℕ, _+_, _*_, _≤_}
 use mathlib.Core.List.{List}
 use mathlib.Core.Path.{_≡_}
@@ -8,8 +8,8 @@ use native.Mathlib.Nat.{add-zero}
 use Rattle.law.specs.Loop.{over}
 use Rattle.law.specs.Store.{written}
 use Rattle.law.specs.Mix.{mix, turn-reads, turn-stores}
-use Rattle.plane.specs.Plane.{Vector, _⊕_, zero32, addOf, subOf, scaleOf, dotOf, timesOf}
-use Rattle.plane.specs.Lent.{vectorAt, blockAt}
+use Rattle.plane.specs.Plane.{Vector, _⊕_, zero32, subOf, dotOf}
+use Rattle.plane.specs.Lent.{vectorAt}
 
 -- the sum of the parts' products, from +0.0, left to right
 abbrev pub dotStep : List Float → List Float → ℕ → Float → Float
@@ -18,28 +18,9 @@ dotStep u v k sum = sum ⊕ dotOf (vectorAt u k) (vectorAt v k)
 unfoldable pub dotAll : ℕ → List Float → List Float → Float
 dotAll n u v = over (dotStep u v) 0 n zero32
 
--- x + d * alpha
-abbrev pub advancedAt : Float → List Float → List Float → ℕ → Vector
-advancedAt alpha d x k = addOf (vectorAt x k) (scaleOf (vectorAt d k) alpha)
-
--- r - d * alpha
-abbrev pub retreatedAt : Float → List Float → List Float → ℕ → Vector
-retreatedAt alpha d r k = subOf (vectorAt r k) (scaleOf (vectorAt d k) alpha)
-
--- z + d * beta
-abbrev pub redirectedAt : Float → List Float → List Float → ℕ → Vector
-redirectedAt beta z d k = addOf (vectorAt z k) (scaleOf (vectorAt d k) beta)
-
 -- b - r
 abbrev pub lackAt : List Float → List Float → ℕ → Vector
 lackAt b r k = subOf (vectorAt b k) (vectorAt r k)
-
-abbrev pub scaledAt : Float → List Float → ℕ → Vector
-scaledAt alpha x k = scaleOf (vectorAt x k) alpha
-
--- each particle's block times its part
-abbrev pub preconditionedAt : List Float → List Float → ℕ → Vector
-preconditionedAt p r k = timesOf (blockAt p k) (vectorAt r k)
 
 -- ---- one turn of an in-place loop: x is the buffer at the loop's head, z after the turn's store of v, and l the buffer before the loop
 

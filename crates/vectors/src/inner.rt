@@ -7,7 +7,7 @@ ghost use lib.ListN.{length};
 ghost use Rattle.law.specs.Mix.{mix};
 ghost use Rattle.plane.specs.Plane.{zeroOf};
 ghost use Rattle.plane.specs.Lent.{vectorAt, blockAt, withVector, withBlock};
-ghost use Rattle.vectors.specs.Whole.{dotAll, advancedAt, retreatedAt, redirectedAt, lackAt, scaledAt, preconditionedAt};
+ghost use Rattle.vectors.specs.Whole.{dotAll, lackAt};
 
 pub fn vector_at(s: &[f32], k: usize) -> Vector
     requires { ⌜ 2 * k + 1 < length (now s) ⌝ }
@@ -57,48 +57,6 @@ pub fn dot_all(n: usize, u: &[f32], v: &[f32]) -> f32
     sum
 }
 
-// x + d * alpha, in place.
-pub fn advance(n: usize, alpha: f32, d: &[f32], x: &mut [f32])
-    requires { ⌜ (2 * n ≤ length (now d)) × (2 * n ≤ length (now x)) ⌝ }
-    ensures { λ _. ⌜ now (x .exit) ≡ mix 2 n (advancedAt alpha (now (d .entry)) (now (x .entry))) (now (x .entry)) ⌝ }
-{
-    for k in 0..n {
-        set_vector(
-            x,
-            k,
-            plane::add(vector_at(x, k), plane::scale(vector_at(d, k), alpha)),
-        );
-    }
-}
-
-// r - d * alpha, in place.
-pub fn retreat(n: usize, alpha: f32, d: &[f32], r: &mut [f32])
-    requires { ⌜ (2 * n ≤ length (now d)) × (2 * n ≤ length (now r)) ⌝ }
-    ensures { λ _. ⌜ now (r .exit) ≡ mix 2 n (retreatedAt alpha (now (d .entry)) (now (r .entry))) (now (r .entry)) ⌝ }
-{
-    for k in 0..n {
-        set_vector(
-            r,
-            k,
-            plane::sub(vector_at(r, k), plane::scale(vector_at(d, k), alpha)),
-        );
-    }
-}
-
-// z + d * beta, in place in d.
-pub fn redirect(n: usize, beta: f32, z: &[f32], d: &mut [f32])
-    requires { ⌜ (2 * n ≤ length (now z)) × (2 * n ≤ length (now d)) ⌝ }
-    ensures { λ _. ⌜ now (d .exit) ≡ mix 2 n (redirectedAt beta (now (z .entry)) (now (d .entry))) (now (d .entry)) ⌝ }
-{
-    for k in 0..n {
-        set_vector(
-            d,
-            k,
-            plane::add(vector_at(z, k), plane::scale(vector_at(d, k), beta)),
-        );
-    }
-}
-
 // b - r, in place in r.
 pub fn lack(n: usize, b: &[f32], r: &mut [f32])
     requires { ⌜ (2 * n ≤ length (now b)) × (2 * n ≤ length (now r)) ⌝ }
@@ -118,30 +76,11 @@ pub fn copy(n: usize, s: &[f32], t: &mut [f32])
     }
 }
 
-pub fn scale_all(n: usize, alpha: f32, x: &mut [f32])
-    requires { ⌜ 2 * n ≤ length (now x) ⌝ }
-    ensures { λ _. ⌜ now (x .exit) ≡ mix 2 n (scaledAt alpha (now (x .entry))) (now (x .entry)) ⌝ }
-{
-    for k in 0..n {
-        set_vector(x, k, plane::scale(vector_at(x, k), alpha));
-    }
-}
-
 pub fn clear(n: usize, x: &mut [f32])
     requires { ⌜ 2 * n ≤ length (now x) ⌝ }
     ensures { λ _. ⌜ now (x .exit) ≡ mix 2 n (λ k. zeroOf) (now (x .entry)) ⌝ }
 {
     for k in 0..n {
         set_vector(x, k, [0.0, 0.0]);
-    }
-}
-
-// Each particle's block times its part of r.
-pub fn precondition(n: usize, p: &[f32], r: &[f32], z: &mut [f32])
-    requires { ⌜ (4 * n ≤ length (now p)) × (2 * n ≤ length (now r)) × (2 * n ≤ length (now z)) ⌝ }
-    ensures { λ _. ⌜ now (z .exit) ≡ mix 2 n (preconditionedAt (now (p .entry)) (now (r .entry))) (now (z .entry)) ⌝ }
-{
-    for k in 0..n {
-        set_vector(z, k, plane::times(block_at(p, k), vector_at(r, k)));
     }
 }

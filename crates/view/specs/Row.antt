@@ -1,7 +1,7 @@
 -- ONE ROW, SHOWN: its slots, its part of the column list, and what stands at a place of it. Total, whatever the lists hold; over a well formed pattern the row shown
 -- is the row (`row-shown`).
 use Prim.Native.Nat.{ℕ, _+_, _-_, _≤_, _<_}
-use mathlib.Core.Path.{_≡_, refl, ap, _∙_}
+use mathlib.Core.Path.{_≡_, refl, sym, ap, _∙_}
 use mathlib.Core.Bool.{Bool, true, false, _&&_, cond}
 use mathlib.Core.List.{List}
 use native.Mathlib.Omega.{arith}
@@ -50,6 +50,12 @@ span-ok starts m r p e =
     (in-order m (ltb (r + 1) (length starts)) _
     (λ _. in-order m (leb (at starts r) (at starts (r + 1)) && leb (at starts (r + 1)) m) (record { from = at starts r; to = at starts (r + 1) })
     (λ t. let h = both _ _ t in (leb-true _ _ (h .0), leb-true _ _ (h .1)))))
+
+-- and its part of the column list is as long
+pub span-long : (starts cols : List ℕ) (r : ℕ) (p : Span) → p ≡ spanOf starts (length cols) r → p .to - p .from ≡ length (rowCols starts cols r)
+span-long starts cols r p e =
+    let ok = span-ok starts (length cols) r p e in
+    sym (length-part (p .from) (p .to) cols (ok .0) (ok .1)) ∙ ap (λ (q : Span). length (part (q .from) (q .to) cols)) e
 
 -- THE ROW SHOWN IS ROW r: its first slot is the row's, it has a column for each of the row's slots, and its j-th column and slot are the row's
 pub record Shown (starts cols : List ℕ) (r : ℕ) : Type 0 where

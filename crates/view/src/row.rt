@@ -43,6 +43,16 @@ pub fn row_first<'s, 'a>(row_offsets: &'s [u32], cols: &'a [u32], r: usize) -> u
     p.from
 }
 
+// How many blocks the row has.
+pub fn row_len(row_offsets: &[u32], cols: &[u32], r: usize) -> usize
+    ensures { λ k. ⌜ k ≡ length (rowCols (now («row_offsets» .entry)) (now (cols .entry)) r) ⌝ }
+{
+    let p = span_at(row_offsets, cols, r);
+    let from = p.from;
+    let to = p.to;
+    to - from
+}
+
 // The row's own part of the caller's column list.
 pub fn row_cols<'s, 'a>(row_offsets: &'s [u32], cols: &'a [u32], r: usize) -> &'a [u32]
     ensures { λ s. ⌜ now s ≡ rowCols (now («row_offsets» .entry)) (now (cols .entry)) r ⌝ }

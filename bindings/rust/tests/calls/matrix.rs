@@ -1,7 +1,7 @@
 //! The block matrix: as the source builds and fills it, and what is refused.
 
 use crate::springs::Bracket;
-use bracket::{BlockMatrix, Refusal, Vector, IDENTITY};
+use bracket::{BlockMatrix, Matrix, Refusal, Vector, IDENTITY};
 
 const BRACKET: Bracket = Bracket {
     columns: 4,
@@ -143,4 +143,44 @@ fn short_lists_are_refused_and_the_rest_of_long_ones_stays() {
     let mut shortened = matrix.clone();
     shortened.blocks.pop();
     assert_eq!(shortened.clear_values(), Err(Refusal::ShortBuffer));
+}
+
+/// The lower triangle, dense, read as the source's factorization reads it.
+fn lower(matrix: &BlockMatrix) -> Vec<Vec<Option<Matrix>>> {
+    let n = matrix.num_rows();
+    let mut lower = vec![vec![None; n]; n];
+    for r in 0..n {
+        matrix.for_each_block_of_row(r as u32, |c, block| {
+            if c as usize <= r {
+                lower[r][c as usize] = Some(*block);
+            }
+        });
+    }
+    lower
+}
+
+#[test]
+fn a_row_is_shown_as_the_source_reads_it() {
+    let mut matrix = BlockMatrix::from_pairs(4, &[(0, 2), (2, 1), (3, 2)]).unwrap();
+    for (slot, block) in matrix.blocks.iter_mut().enumerate() {
+        block[0][0] = slot as f32;
+    }
+    // The particle adjacency, without the diagonal.
+    let mut adjacency = vec![Vec::new(); 4];
+    for (r, neighbors) in adjacency.iter_mut().enumerate() {
+        matrix.for_each_block_of_row(r as u32, |c, _| {
+            if c as usize != r {
+                neighbors.push(c);
+            }
+        });
+    }
+    assert_eq!(adjacency, [vec![2], vec![2], vec![0, 1, 3], vec![2]]);
+    for (r, row) in lower(&matrix).iter().enumerate() {
+        for (c, block) in row.iter().enumerate() {
+            let slot = matrix.block_index(r as u32, c as u32).unwrap();
+            let stored = (c <= r && slot != u32::MAX).then(|| matrix.blocks[slot as usize]);
+            assert_eq!(*block, stored);
+        }
+    }
+    matrix.for_each_block_of_row(4, |_, _| unreachable!());
 }

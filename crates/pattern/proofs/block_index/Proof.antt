@@ -1,4 +1,5 @@
 -- `pattern::block_index` meets its contract. Assumes nothing.
+use Prim.Native.Nat.{ℕ}
 use mathlib.Core.Path.{sym, ap, _∙_}
 use Rattle.law.specs.Promise.{refuses, accepts}
 use Rattle.shape.specs.Index.{line-of}
@@ -22,7 +23,7 @@ block-index-requires c κs =
 returns-2 : tie.Need-returns-2
 returns-2 c =
     let k = c .before in
-    accepts (indexing.blockDoor _) _ _ (k .before .row .ensures) (k .if1 .left) _ (ap Slot (c .block-index .ensures))
+    accepts (indexing.blockDoor _) _ _ (k .before .row .ensures) (k .if1 .left) _ (ap (λ (s : ℕ). indexing.left (Slot s)) (c .block-index .ensures))
 
 pub block-index-spec : {M : Type 1} → statement M
 block-index-spec = tie.close (tie.spec row-requires returns block-index-requires returns-2)

@@ -45,7 +45,7 @@ use denote.Exit.{yes}
 use Rattle.tally.specs.Count.{countedOf}
 use Rattle.law.specs.Promise.{Promise}
 use Rattle.step.specs.Stepping.{given, left, door}
-use Rattle.report.specs.Counting.{askedOf}
+use Rattle.counting.specs.Counting.{askedOf}
 use Rattle.tally.specs.declared.Tally.{Tally}
 use Rattle.tally.specs.declared.Asked.{Asked}
 use Rattle.step.specs.declared.Stepped.{Stepped}
@@ -58,10 +58,10 @@ use Rattle.step.proofs.inner.solve_step as g
 use Rattle.step.proofs.inner.solve_step.Symbol as g-def
 use Rattle.step.proofs.inner.solve_step.Symbol.{name as #g}
 use Rattle.step.proofs.inner.solve_step.Met as g-thm
-use Rattle.report.proofs.asked.by_step as kind
-use Rattle.report.proofs.asked.by_step.Symbol as kind-def
-use Rattle.report.proofs.asked.by_step.Symbol.{name as #kind}
-use Rattle.report.proofs.asked.by_step.Met as kind-thm
+use Rattle.counting.proofs.asked.by_step as kind
+use Rattle.counting.proofs.asked.by_step.Symbol as kind-def
+use Rattle.counting.proofs.asked.by_step.Symbol.{name as #kind}
+use Rattle.counting.proofs.asked.by_step.Met as kind-thm
 use Rattle.tally.proofs.count as count
 use Rattle.tally.proofs.count.Symbol as count-def
 use Rattle.tally.proofs.count.Symbol.{name as #count}
@@ -309,5 +309,5 @@ solve-step-spec 𝓤 H 𝓜 𝓖 𝓡 =
     (tables 𝓤 H 𝓜 𝓡 code.env .C) (tables 𝓤 H 𝓜 𝓡 code.env .Λ) #this code.function (code.unfolded 𝓤 H 𝓜 𝓡)
     (this-meets 𝓤 H (𝓖 .A) (givenOf 𝓤 H 𝓜 𝓖) (𝓜 .mem) (𝓡 .run) (tablesOf 𝓤 H 𝓜 (tables 𝓤 H 𝓜 𝓡 code.env))
     (cited 𝓤 H (G 𝓤 H (𝓖 .A) (𝓜 .mem) (𝓡 .run)) 𝓜 𝓡 code.env #g g-def.routine code.calls-step·inner·solve-step (g-thm.met 𝓤 H 𝓜 𝓖 𝓡))
-    (cited 𝓤 H (KindOf 𝓤 H (𝓖 .A) (𝓜 .mem) (𝓡 .run)) 𝓜 𝓡 code.env #kind kind-def.routine code.calls-report·asked·by-step (kind-thm.met 𝓤 H 𝓜 𝓖 𝓡))
+    (cited 𝓤 H (KindOf 𝓤 H (𝓖 .A) (𝓜 .mem) (𝓡 .run)) 𝓜 𝓡 code.env #kind kind-def.routine code.calls-counting·asked·by-step (kind-thm.met 𝓤 H 𝓜 𝓖 𝓡))
     (cited 𝓤 H (Count 𝓤 H (𝓖 .A) (𝓜 .mem) (𝓡 .run)) 𝓜 𝓡 code.env #count count-def.routine code.calls-tally·count (count-thm.met 𝓤 H 𝓜 𝓖 𝓡)))

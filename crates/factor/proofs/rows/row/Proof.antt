@@ -1,6 +1,7 @@
 -- `factor::rows::row` meets its contract. Assumes nothing.
 use Rattle.fits.specs.Cells.{held, corner}
-use Rattle.factor.specs.Factor.{closeOf, rowOf, reach-of}
+use Rattle.entries.specs.Row.{reach-of}
+use Rattle.factor.specs.Factor.{closeOf, rowOf}
 use borrow.Author.Needs.{needs}
 use native.Mathlib.Omega.{arith}
 use Rattle.factor.proofs.rows.row.Statement.{statement}

@@ -10,31 +10,31 @@ mul-m : tie.Need-mul-m
 mul-m c = search needs
 
 slice-relend-prefix-solve : tie.Need-slice-relend-prefix-solve
-slice-relend-prefix-solve c = search needs
+slice-relend-prefix-solve c = c .before .before .before .before .before .before .before .before .before .before .before .pre .x
 
 slice-aggregate-solve : tie.Need-slice-aggregate-solve
 slice-aggregate-solve c = sym (length-take-le _ _ (c .before .before .before .before .before .before .before .before .before .before .before .before .pre .x))
 
 slice-relend-prefix-solve-2 : tie.Need-slice-relend-prefix-solve-2
-slice-relend-prefix-solve-2 c = search needs
+slice-relend-prefix-solve-2 c = c .before .before .before .before .before .before .before .before .before .before .before .before .pre .residual
 
 slice-aggregate-solve-2 : tie.Need-slice-aggregate-solve-2
 slice-aggregate-solve-2 c = sym (length-take-le _ _ (c .before .before .before .before .before .before .before .before .before .before .before .before .before .pre .residual))
 
 slice-relend-prefix-solve-3 : tie.Need-slice-relend-prefix-solve-3
-slice-relend-prefix-solve-3 c = search needs
+slice-relend-prefix-solve-3 c = c .before .before .before .before .before .before .before .before .before .before .before .before .before .pre .direction
 
 slice-aggregate-solve-3 : tie.Need-slice-aggregate-solve-3
 slice-aggregate-solve-3 c = sym (length-take-le _ _ (c .before .before .before .before .before .before .before .before .before .before .before .before .before .before .pre .direction))
 
 slice-relend-prefix-solve-4 : tie.Need-slice-relend-prefix-solve-4
-slice-relend-prefix-solve-4 c = search needs
+slice-relend-prefix-solve-4 c = c .before .before .before .before .before .before .before .before .before .before .before .before .before .before .pre .a-direction
 
 slice-aggregate-solve-4 : tie.Need-slice-aggregate-solve-4
 slice-aggregate-solve-4 c = sym (length-take-le _ _ (c .before .before .before .before .before .before .before .before .before .before .before .before .before .before .before .pre .a-direction))
 
 slice-relend-prefix-solve-5 : tie.Need-slice-relend-prefix-solve-5
-slice-relend-prefix-solve-5 c = search needs
+slice-relend-prefix-solve-5 c = c .before .before .before .before .before .before .before .before .before .before .before .before .before .before .before .pre .z
 
 slice-aggregate-solve-5 : tie.Need-slice-aggregate-solve-5
 slice-aggregate-solve-5 c = sym (length-take-le _ _ (c .before .before .before .before .before .before .before .before .before .before .before .before .before .before .before .before .pre .z))

@@ -8,7 +8,7 @@ use borrow.Author.Needs.{needs}
 use Rattle.ordering.specs.Order.{neighbours, startAfter, fresh, placing}
 use Rattle.ordering.specs.Keys.{Below}
 use Rattle.ordering.specs.Marks.{Stands}
-use Rattle.search.proofs.Exploring.{rows-at, cols-below}
+use Rattle.breadth.proofs.Exploring.{rows-at, cols-below}
 use Rattle.order.proofs.Standing.{none-stand, open-asks, open-gives, who-below, room, visited-stands, whole}
 use Rattle.order.proofs.place.place_all.Statement.{statement}
 use Rattle.order.proofs.place.place_all.Tie as tie

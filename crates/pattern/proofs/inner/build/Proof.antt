@@ -54,16 +54,16 @@ build-requires c κs =
     }
 
 same-length : tie.Need-same-length
-same-length c = search needs
+same-length c = c .before .before .before .before .before .before .before .row-offsets .given .1
 
 same-length-2 : tie.Need-same-length-2
-same-length-2 c = search needs
+same-length-2 c = c .before .before .before .before .before .cols .given .1
 
 same-length-3 : tie.Need-same-length-3
-same-length-3 c = search needs
+same-length-3 c = c .before .before .before .diagonal .given .1
 
 same-length-4 : tie.Need-same-length-4
-same-length-4 c = search needs
+same-length-4 c = c .before .work .given .1
 
 returns : tie.Need-returns
 returns c = building.worked _ _ _ _ _ _ (c .before .before .before .before .before .before .before .before .build .ensures)

@@ -2,7 +2,7 @@
 use borrow.Author.Tests.{le-leb, lt-leb}
 use Rattle.law.specs.Refusal.{goes-on, stops}
 use Rattle.law.specs.Truth.{refused, passed}
-use Rattle.step.specs.Dense.{roomy}
+use Rattle.routes.specs.Dense.{roomy}
 use Rattle.gains.specs.Entries.{has-names}
 use Rattle.response.specs.Responding.{refusals}
 use borrow.Author.Needs.{needs}

@@ -1,15 +1,19 @@
 -- `run::inner::attempt` meets its contract. Assumes nothing.
+use native.Mathlib.Omega.{arith}
 use Rattle.turn.specs.Vectors.{zeros-are}
 use Rattle.run.proofs.Laws.{solve-zero, solve-start}
-use borrow.Author.Needs.{needs}
 use Rattle.run.proofs.inner.attempt.Statement.{statement}
 use Rattle.run.proofs.inner.attempt.Tie as tie
 
 dot-all-requires : tie.Need-dot-all-requires
-dot-all-requires c κs = search needs
+dot-all-requires c κs =
+    let p = c .before .before .before .before .before .before .before .before .before .before .pre .1 .1 in
+    (p, p)
 
 clear-requires : tie.Need-clear-requires
-clear-requires c κs = search needs
+clear-requires c κs =
+    let s = c .before .before .before .before .before .before .before .before .before .before .before .before .before in
+    omega (arith, s .pre .1 .0 .x-is)
 
 same-length : tie.Need-same-length
 same-length c = c .before .before .clear .kept .1 .0
@@ -23,7 +27,7 @@ returns c =
     solve-zero _ _ _ _ _ _ _ _ (d .dot-all .ensures) (i .if1 .taken) _ (zeros-are _ _ _ (s .pre .1 .0 .x-is) (w .clear .ensures))
 
 start-requires : tie.Need-start-requires
-start-requires c κs = search needs
+start-requires c κs = c .before .before .before .before .before .before .before .before .before .before .before .before .before .before .before .before .before .pre
 
 same-length-2 : tie.Need-same-length-2
 same-length-2 c = c .before .before .before .before .before .before .before .before .before .before .start .kept .1 .1 .1 .1 .1 .1 .1 .1 .0

@@ -2,7 +2,6 @@
 use mathlib.Core.Path.{_∙_}
 use native.Mathlib.Omega.{arith}
 use Rattle.turn.specs.Vectors.{zeros-are}
-use borrow.Author.Needs.{needs}
 use Rattle.run.proofs.inner.solve.Statement.{statement}
 use Rattle.run.proofs.inner.solve.Tie as tie
 
@@ -10,27 +9,27 @@ abbrev to-start : tie.After-attempt → tie.Start
 to-start c = c .before .before .before .before .before .before .before .before .before .before .before .before .before .before .before .before
 
 attempt-requires : tie.Need-attempt-requires
-attempt-requires c κs = search needs
+attempt-requires c κs = c .before .before .before .before .before .before .before .before .before .before .before .before .before .before .before .pre
 
 clear-requires : tie.Need-clear-requires
 clear-requires c κs =
     let k = c .before .before .before .before .before .before .before .before .before .before .before in
-    omega (arith, to-start k .pre .1 .0, k .attempt .kept)
+    omega (arith, to-start k .pre .1 .0 .residual-is, k .attempt .kept .1 .1 .1 .1 .1 .1 .1 .1 .1 .0)
 
 clear-requires-2 : tie.Need-clear-requires-2
 clear-requires-2 c κs =
     let k = c .before .before .before .before .before .before .before .before .before .before .before .before .before .before .before in
-    omega (arith, to-start k .pre .1 .0, k .attempt .kept)
+    omega (arith, to-start k .pre .1 .0 .direction-is, k .attempt .kept .1 .1 .1 .1 .1 .1 .1 .1 .1 .1 .0)
 
 clear-requires-3 : tie.Need-clear-requires-3
 clear-requires-3 c κs =
     let k = c .before .before .before .before .before .before .before .before .before .before .before .before .before .before .before .before .before .before .before in
-    omega (arith, to-start k .pre .1 .0, k .attempt .kept)
+    omega (arith, to-start k .pre .1 .0 .a-direction-is, k .attempt .kept .1 .1 .1 .1 .1 .1 .1 .1 .1 .1 .1 .0)
 
 clear-requires-4 : tie.Need-clear-requires-4
 clear-requires-4 c κs =
     let k = c .before .before .before .before .before .before .before .before .before .before .before .before .before .before .before .before .before .before .before .before .before .before .before in
-    omega (arith, to-start k .pre .1 .0, k .attempt .kept)
+    omega (arith, to-start k .pre .1 .0 .z-is, k .attempt .kept .1 .1 .1 .1 .1 .1 .1 .1 .1 .1 .1 .1 .0)
 
 same-length : tie.Need-same-length
 same-length c = c .before .before .before .before .before .before .before .before .before .before .before .before .before .before .before .before .before .before .before .before .before .before .before .before .before .before .attempt .kept .1 .1 .1 .1 .1 .1 .1 .1 .0

@@ -3,7 +3,7 @@ use borrow.Author.Tests.{le-leb, lt-leb}
 use Rattle.law.specs.Refusal.{goes-on, stops}
 use Rattle.law.specs.Truth.{refused, passed}
 use Rattle.shape.specs.Given.{held}
-use Rattle.step.specs.Dense.{when-laid}
+use Rattle.routes.specs.Dense.{when-laid}
 use Rattle.step.specs.Marking.{refusals}
 use borrow.Author.Needs.{needs}
 use Rattle.step.proofs.refuse.marking.Statement.{statement}

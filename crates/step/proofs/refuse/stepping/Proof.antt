@@ -2,7 +2,7 @@
 use borrow.Author.Tests.{le-leb, lt-leb}
 use Rattle.law.specs.Refusal.{goes-on, stops}
 use Rattle.law.specs.Truth.{refused, passed}
-use Rattle.step.specs.Dense.{roomy}
+use Rattle.routes.specs.Dense.{roomy}
 use Rattle.step.specs.Stepping.{refusals}
 use borrow.Author.Needs.{needs}
 use Rattle.step.proofs.refuse.stepping.Statement.{statement}

@@ -2,7 +2,8 @@
 use native.Mathlib.Omega.{arith}
 use denote.Ref.{now}
 use Rattle.shape.specs.Rows.{at}
-use Rattle.substitution.specs.Held.{held-of, solve-calls}
+use Rattle.passes.specs.Held.{held-of}
+use Rattle.substitution.specs.Calls.{solve-calls}
 use borrow.Author.Needs.{needs}
 use Rattle.substitution.proofs.inner.solve.Statement.{statement}
 use Rattle.substitution.proofs.inner.solve.Tie as tie

@@ -1,0 +1,2 @@
+// The breadth-first search over the particles that are not placed.
+pub mod search;

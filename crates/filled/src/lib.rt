@@ -1,0 +1,2 @@
+// A pattern's buffers, filled from the rows' lists.
+pub mod filling;

@@ -1,0 +1,2 @@
+// Floats handed out over the C ABI.
+pub mod lent;

@@ -1,0 +1,3 @@
+-- What the load leaves, and the theorems that other crates may cite (`pub`).
+pub mod Look
+pub mod Loaded

@@ -1,0 +1,3 @@
+// The load: the permuted matrix's lower triangle into the envelope.
+pub mod blocks;
+pub mod inner;

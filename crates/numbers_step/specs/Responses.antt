@@ -1,0 +1,43 @@
+-- A RESPONSE OVER THE C ABI: its gain, and how its step solve ended, as `Steps` tells it; 6 where none was asked for. A refusal leaves the places.
+use Prim.Native.Nat.{ℕ}
+use mathlib.Core.Path.{_≡_}
+use lib.Ieee.{Float}
+use Rattle.response.specs.declared.Responded.{Responded}
+use Rattle.response.specs.declared.Responded.the-variants.{Refused, Nothing, Direct, Iterated}
+use Rattle.response.specs.Responding.{gain}
+use Rattle.numbers.specs.declared.ended.Places.{Places}
+use Rattle.numbers.specs.Told.{toldOf}
+use Rattle.numbers_step.specs.Steps.{bareOf}
+
+abbrev pub respondedNumber : Responded → ℕ
+respondedNumber (Refused k) = k
+respondedNumber Nothing = 0
+respondedNumber (Direct g) = 0
+respondedNumber (Iterated g how) = 0
+
+-- what the places hold after the answer, from what they held: the gain; the ending
+abbrev pub gainOf : Responded → Float → Float
+gainOf (Refused k) old = old
+gainOf Nothing old = gain Nothing
+gainOf (Direct g) old = gain (Direct g)
+gainOf (Iterated g how) old = gain (Iterated g how)
+
+abbrev pub placesOf : Responded → Places → Places
+placesOf (Refused k) old = old
+placesOf Nothing old = bareOf 6
+placesOf (Direct g) old = bareOf 0
+placesOf (Iterated g how) old = toldOf how
+
+pub record Gained : Type 0 where
+  pub gain : Float
+  pub told : Places
+
+abbrev pub gained : Float → Places → Gained
+gained g told = record { gain = g; told = told }
+
+abbrev pub gainedOf : Responded → Gained → Gained
+gainedOf a old = gained (gainOf a (old .gain)) (placesOf a (old .told))
+
+-- both are equal
+pub same-gained : (g g' : Float) (told told' : Places) → g ≡ g' → told ≡ told' → gained g told ≡ gained g' told'
+same-gained g g' told told' e p = rw (e, p)

@@ -1,0 +1,2 @@
+// A pinned row of a block matrix.
+pub mod inner;

@@ -1,0 +1,12 @@
+-- `scan::inner::is_digit` meets its contract. Assumes nothing.
+use mathlib.Core.Path.{refl}
+use Rattle.scan.specs.Numbers.{isDigit}
+use Rattle.scan.proofs.inner.is_digit.Statement.{statement}
+use Rattle.scan.proofs.inner.is_digit.Tie as tie
+
+returns : tie.Need-returns
+unfolding isDigit
+returns c = refl
+
+pub is-digit-spec : {M : Type 1} → statement M
+is-digit-spec = tie.close (tie.spec returns)
