@@ -2,19 +2,17 @@
 use Prim.Native.Nat.{ℕ}
 use mathlib.Core.Path.{_≡_}
 use lib.Ieee.{Float}
+use Rattle.law.specs.Said.{refusalOf}
+use Rattle.direct.specs.Said.{factoredSaid, solvedSaid}
 use Rattle.direct.specs.declared.Factored.{Factored}
 use Rattle.direct.specs.declared.Factored.the-variants as factored
 use Rattle.direct.specs.declared.Solved.{Solved}
-use Rattle.direct.specs.declared.Solved.the-variants as solved
 
 abbrev pub factoredNumber : Factored → ℕ
-factoredNumber (factored.Refused k) = k
-factoredNumber factored.Done = 0
-factoredNumber (factored.Failed row pivot) = 0
+factoredNumber a = refusalOf (factoredSaid a)
 
 abbrev pub solvedNumber : Solved → ℕ
-solvedNumber (solved.Refused k) = k
-solvedNumber solved.Done = 0
+solvedNumber a = refusalOf (solvedSaid a)
 
 -- what the three places hold after an answer, by what they held: 0 for a whole factor, 1 for a failure; the failing row; its pivot
 abbrev pub howOf : Factored → ℕ → ℕ

@@ -2,26 +2,23 @@
 use Prim.Native.Nat.{ℕ}
 use mathlib.Core.Path.{_≡_, sym, ap, _∙_, subst}
 use Rattle.law.specs.Promise.{Door, Promise, outcome}
+use Rattle.law.specs.Said.{refusalOf}
+use Rattle.pattern.specs.Said.{builtSaid, ranSaid, foundSaid}
+use Rattle.envelope.specs.Said.{plannedSaid}
 use Rattle.pattern.specs.declared.Built.{Built}
-use Rattle.pattern.specs.declared.Built.the-variants as built
 use Rattle.pattern.specs.declared.Found.{Found}
 use Rattle.pattern.specs.declared.Found.the-variants as found
 use Rattle.pattern.specs.declared.Ran.{Ran}
-use Rattle.pattern.specs.declared.Ran.the-variants as ran
 use Rattle.envelope.specs.declared.Planned.{Planned}
-use Rattle.envelope.specs.declared.Planned.the-variants as planned
 
 abbrev pub builtNumber : Built → ℕ
-builtNumber (built.Refused k) = k
-builtNumber (built.Done m) = 0
+builtNumber a = refusalOf (builtSaid a)
 
 abbrev pub ranNumber : Ran → ℕ
-ranNumber (ran.Refused k) = k
-ranNumber ran.Done = 0
+ranNumber a = refusalOf (ranSaid a)
 
 abbrev pub foundNumber : Found → ℕ
-foundNumber (found.Refused k) = k
-foundNumber (found.Slot s) = 0
+foundNumber a = refusalOf (foundSaid a)
 
 -- what a lent place for the slot then holds: the slot, or what it held
 abbrev pub foundSlot : Found → ℕ → ℕ
@@ -29,8 +26,7 @@ foundSlot (found.Refused k) old = old
 foundSlot (found.Slot s) old = s
 
 abbrev pub plannedNumber : Planned → ℕ
-plannedNumber (planned.Refused k) = k
-plannedNumber (planned.Done len) = 0
+plannedNumber a = refusalOf (plannedSaid a)
 
 -- r is the number of the answer that the door comes to, and the lists are those that it leaves: with that answer they make up the outcome
 pub record Numbered {I O A : Type 0} (d : Door I O) (answer : O → A) (number : A → ℕ) (i : I) (r : ℕ) (left : A → O) : Type 0 where

@@ -1,23 +1,22 @@
 -- HOW A SOLVE ENDED, over the C ABI: document 01's number of the outcome, its count and its floats, in four lent places. What an outcome doesn't carry is +0.0; a refusal leaves all four.
 use Prim.Native.Nat.{ℕ}
 use lib.Ieee.{Float}
+use Rattle.law.specs.Said.{refusalOf}
 use Rattle.plane.specs.Plane.{zero32}
 use Rattle.turn.specs.declared.Outcome.{Outcome}
 use Rattle.turn.specs.declared.Outcome.the-variants.{Zero, Near, Converged, Curvature, Limit}
 use Rattle.turn.specs.Solve.{numberOf, countOf}
+use Rattle.gradient.specs.Said.{updatedSaid, solvedSaid}
 use Rattle.gradient.specs.declared.Updated.{Updated}
-use Rattle.gradient.specs.declared.Updated.the-variants as updated
 use Rattle.gradient.specs.declared.Solved.{Solved}
 use Rattle.gradient.specs.declared.Solved.the-variants as solved
 use Rattle.numbers.specs.declared.ended.Places.{Places}
 
 abbrev pub updatedNumber : Updated → ℕ
-updatedNumber (updated.Refused k) = k
-updatedNumber updated.Done = 0
+updatedNumber a = refusalOf (updatedSaid a)
 
 abbrev pub solvedNumber : Solved → ℕ
-solvedNumber (solved.Refused k) = k
-solvedNumber (solved.Ran o) = 0
+solvedNumber a = refusalOf (solvedSaid a)
 
 abbrev pub places : ℕ → ℕ → Float → Float → Places
 places how count norm denominator = record { how = how; count = count; norm = norm; denominator = denominator }

@@ -1,15 +1,14 @@
 -- THE STEP'S FACTOR AS NUMBERS. A factor that fails is no refusal, and neither is a step that is to be iterated: lent places say which it was, and where a failure was and by which pivot.
 use Prim.Native.Nat.{ℕ}
 use lib.Ieee.{Float}
+use Rattle.law.specs.Said.{refusalOf}
+use Rattle.step.specs.Said.{markedSaid}
 use Rattle.step.specs.declared.Marked.{Marked}
 use Rattle.step.specs.declared.Marked.the-variants.{Refused, Direct, Failed, Iterative}
 use Rattle.numbers.specs.Direct.{Places, places}
 
 abbrev pub markedNumber : Marked → ℕ
-markedNumber (Refused k) = k
-markedNumber Direct = 0
-markedNumber (Failed row pivot) = 0
-markedNumber Iterative = 0
+markedNumber a = refusalOf (markedSaid a)
 
 -- what the three places hold after an answer, by what they held: 0 for a whole factor, 1 for a failure, 2 for the iterative route; the failing row; its pivot
 abbrev pub howOf : Marked → ℕ → ℕ

@@ -2,6 +2,8 @@
 use Prim.Native.Nat.{ℕ}
 use mathlib.Core.Path.{_≡_}
 use lib.Ieee.{Float}
+use Rattle.law.specs.Said.{refusalOf}
+use Rattle.response.specs.Said.{respondedSaid}
 use Rattle.response.specs.declared.Responded.{Responded}
 use Rattle.response.specs.declared.Responded.the-variants.{Refused, Nothing, Direct, Iterated}
 use Rattle.response.specs.Responding.{gain}
@@ -10,10 +12,7 @@ use Rattle.numbers.specs.Told.{toldOf}
 use Rattle.numbers_step.specs.Steps.{bareOf}
 
 abbrev pub respondedNumber : Responded → ℕ
-respondedNumber (Refused k) = k
-respondedNumber Nothing = 0
-respondedNumber (Direct g) = 0
-respondedNumber (Iterated g how) = 0
+respondedNumber a = refusalOf (respondedSaid a)
 
 -- what the places hold after the answer, from what they held: the gain; the ending
 abbrev pub gainOf : Responded → Float → Float

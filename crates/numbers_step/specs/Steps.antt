@@ -1,15 +1,15 @@
 -- HOW A STEP SOLVE ENDED, over the C ABI: by the factor, which is 0 and carries nothing, or by an iteration, which is told as the conjugate gradient's call tells it. A refusal leaves the places.
 use Prim.Native.Nat.{ℕ}
 use Rattle.plane.specs.Plane.{zero32}
+use Rattle.law.specs.Said.{refusalOf}
+use Rattle.step.specs.Said.{steppedSaid}
 use Rattle.step.specs.declared.Stepped.{Stepped}
 use Rattle.step.specs.declared.Stepped.the-variants.{Refused, Direct, Iterated}
 use Rattle.numbers.specs.declared.ended.Places.{Places}
 use Rattle.numbers.specs.Told.{places, toldOf}
 
 abbrev pub steppedNumber : Stepped → ℕ
-steppedNumber (Refused k) = k
-steppedNumber Direct = 0
-steppedNumber (Iterated o) = 0
+steppedNumber a = refusalOf (steppedSaid a)
 
 -- an ending without a count and floats
 abbrev pub bareOf : ℕ → Places

@@ -59,4 +59,12 @@ starred = record {
   converged = refl;
   limit = refl;
   curvature = refl;
+  six-says = refl;
+  repeats-say = refl;
+  refused-says = refl;
+  factor-says = refl;
+  fails-says = refl;
+  converged-says = refl;
+  limit-says = refl;
+  curvature-says = refl;
 }

@@ -8,6 +8,7 @@ use lib.ListN.{length, replicate}
 use lib.IntN.{pos}
 use lib.Ieee.{Float, binary32, ofInt, neg}
 use Rattle.law.specs.Promise.{outcome}
+use Rattle.law.specs.Said as says
 use Rattle.ordering.specs.Order.{numbers, least, degree, neighbours, startAfter}
 use Rattle.pattern.specs.declared.Built.{Built}
 use Rattle.pattern.specs.declared.Built.the-variants as built
@@ -137,3 +138,12 @@ pub record Starred : Type 0 where
   pub limit : iterate identity (3 ∷ 4 ∷ []) 0 ≡ ended (Limit 0 (f32 25)) (0 ∷ 0 ∷ [])
   -- minus identity, b=(1,0), x=0, tolerance 0, limit 5: Curvature, count 0, denominator −1
   pub curvature : iterate minusIdentity (1 ∷ 0 ∷ []) 5 ≡ ended (Curvature 0 (f32 1) (neg (f32 1))) (0 ∷ 0 ∷ [])
+  -- and what the answers say: the envelope's length, the number of blocks, a refusal's number, a failure's row and pivot, an outcome's number, count and floats
+  pub six-says : plan 6 five-pairs .said ≡ says.carries 0 (38 ∷ []) []
+  pub repeats-say : fromPairs 2 ((0, 1) ∷ (1, 0) ∷ (0, 1) ∷ (1, 1) ∷ []) .pattern .said ≡ says.carries 0 (4 ∷ []) []
+  pub refused-says : fromPairs 2 ((0, 2) ∷ []) .pattern .said ≡ says.refused 4
+  pub factor-says : factorize (4 ∷ 2 ∷ 2 ∷ 10 ∷ []) .said ≡ says.carries 0 [] []
+  pub fails-says : factorize (1 ∷ 2 ∷ 2 ∷ 4 ∷ []) .said ≡ says.carries 1 (1 ∷ []) (f32 0 ∷ [])
+  pub converged-says : iterate identity (3 ∷ 4 ∷ []) 1 .said ≡ says.carries 3 (1 ∷ []) (f32 0 ∷ [])
+  pub limit-says : iterate identity (3 ∷ 4 ∷ []) 0 .said ≡ says.carries 5 (0 ∷ []) (f32 25 ∷ [])
+  pub curvature-says : iterate minusIdentity (1 ∷ 0 ∷ []) 5 .said ≡ says.carries 4 (0 ∷ []) (f32 1 ∷ neg (f32 1) ∷ [])

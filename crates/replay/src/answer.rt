@@ -127,6 +127,9 @@ fn operate(name: &[u8], w: &[u32], out: &mut Room) -> usize
     if iterated > 0 {
         return iterated;
     }
+    if check::same(name, b"response_into") {
+        return replay_response::respond::response_into(w, out);
+    }
     let stepped = replay_step::operation::operate(name, w, out);
     if stepped > 0 {
         return stepped;

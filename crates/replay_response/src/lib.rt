@@ -1,4 +1,3 @@
-// The response on the words of a stored case's line, and the tally of such a line.
+// The response on the words of a stored case's line.
 mod ending;
-pub mod record;
 pub mod respond;

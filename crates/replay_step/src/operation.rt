@@ -4,7 +4,6 @@ ghost use Prim.Native.Nat.{_≤_};
 ghost use Rattle.tokens.specs.Room.{room};
 use crate::factor;
 use crate::solve;
-use replay_response::respond;
 use tokens::print::Room;
 
 pub fn operate(name: &[u8], w: &[u32], out: &mut Room) -> usize
@@ -15,9 +14,6 @@ pub fn operate(name: &[u8], w: &[u32], out: &mut Room) -> usize
     }
     if check::same(name, b"solve_step") {
         return solve::solve_step(w, out);
-    }
-    if check::same(name, b"response_into") {
-        return respond::response_into(w, out);
     }
     0
 }

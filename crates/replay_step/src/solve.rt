@@ -4,7 +4,7 @@ ghost use Rattle.tokens.specs.Room.{room};
 use crate::ending::of_step;
 use crate::ending::stepped;
 use law::wide;
-use replay_response::record;
+use replay_tally::record;
 use step::Stepped;
 use tally::Tally;
 use tokens::list::LONGEST;

@@ -1,0 +1,2 @@
+// The tally of a stored case's line.
+pub mod record;
