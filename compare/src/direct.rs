@@ -5,7 +5,7 @@ use crate::calls::{beside_second, same};
 use crate::damage::damage;
 use crate::judge::Judged;
 use crate::proved::PROVED;
-use crate::times::micros;
+use crate::times::{by_turns, micros, told};
 use crate::{doors, inside};
 use oracle::blocks::{self, vectors, Blocks};
 use oracle::call::{Call, Left};
@@ -233,6 +233,7 @@ pub fn times(draw: &mut Draw) {
     for (name, graph) in [
         ("chain 1024", graphs::chain(1024)),
         ("grid 32x10", graphs::grid(32, 10)),
+        ("grid 8x5", graphs::grid(8, 5)),
         ("complete 90", graphs::complete(90)),
     ] {
         let system = System::new(draw, &graph, 0);
@@ -249,29 +250,25 @@ fn pivots(values: &[u32], starts: &[u32]) -> Vec<f32> {
     roots.map(|root| f32::from_bits(root).powi(2)).collect()
 }
 
+/// In a factor each root waits for the one before, so here too.
+fn one_after_the_other(pivots: &[f32], root: impl Fn(f32) -> f32) {
+    let chain = |last, pivot| root(pivot + last * 0.0);
+    black_box(pivots.iter().fold(0.0, chain));
+}
+
 fn times_factorize(mut call: Call) -> String {
     let pattern = [0, 1, 2].map(|at| call.lists[at].as_slice());
     let matrix = Blocks::from_lists(call.n(), pattern, &call.lists[3]);
     let mut direct = Direct::from_lists(call.n(), &call.lists[4..8], &[]);
-    let rust = micros(|| assert!(direct.factorize(black_box(&matrix))));
-    let door = micros(|| assert_eq!(doors::made(&mut call).0, 0, "refused"));
-    let inner = micros(|| inside::factorize(&mut call));
+    let rust = |_: &mut Call| assert!(direct.factorize(black_box(&matrix)));
+    let door = |call: &mut Call| assert_eq!(doors::made(call).0, 0, "refused");
+    let times = by_turns(&mut call, rust, door, inside::factorize);
     let pivots = pivots(&call.lists[8], &call.lists[7]);
-    let mut roots = pivots.clone();
-    let proved_roots = micros(|| {
-        let both = roots.iter_mut().zip(&pivots);
-        both.for_each(|(root, &pivot)| *root = PROVED.root([pivot])[0]);
-    });
-    let rust_roots = micros(|| {
-        let both = roots.iter_mut().zip(&pivots);
-        both.for_each(|(root, &pivot)| *root = black_box(pivot).sqrt());
-    });
-    format!(
-        "{:.2} {:.2} ({rust:.1}), without roots {:.2}",
-        door / rust,
-        inner / rust,
-        (inner - proved_roots) / (rust - rust_roots)
-    )
+    let proved_roots = micros(|| one_after_the_other(&pivots, |x| PROVED.root([x])[0]));
+    let rust_roots = micros(|| one_after_the_other(&pivots, f32::sqrt));
+    let [_, inner, rust] = times;
+    let loops = (inner * rust - proved_roots) / (rust - rust_roots);
+    format!("{}, without roots {loops:.2}", told(times))
 }
 
 fn times_solve(mut call: Call) -> String {
@@ -279,8 +276,7 @@ fn times_solve(mut call: Call) -> String {
     let mut direct = Direct::from_lists(n, &call.lists[..4], &call.lists[4]);
     let b = vectors(&call.lists[5], n);
     let mut x = b.clone();
-    let rust = micros(|| direct.solve(black_box(&b), &mut x));
-    let door = micros(|| assert_eq!(doors::made(&mut call).0, 0, "refused"));
-    let inner = micros(|| inside::solve(&mut call));
-    format!("{:.2} {:.2} ({rust:.1})", door / rust, inner / rust)
+    let rust = |_: &mut Call| direct.solve(black_box(&b), &mut x);
+    let door = |call: &mut Call| assert_eq!(doors::made(call).0, 0, "refused");
+    told(by_turns(&mut call, rust, door, inside::solve))
 }

@@ -5,7 +5,7 @@ use crate::calls::{beside_second, same};
 use crate::damage::damage;
 use crate::ends::Ends;
 use crate::judge::Judged;
-use crate::times::{matrix, micros};
+use crate::times::{by_turns, matrix, told};
 use crate::{doors, endings, inside};
 use oracle::blocks::{self, vectors};
 use oracle::call::{Call, Operation};
@@ -135,6 +135,7 @@ pub fn times(draw: &mut Draw) {
     println!("times of conjugate_gradient: door/Rust inner/Rust (Rust's microseconds), and of update_preconditioner");
     for (name, graph) in [
         ("chain 1024", graphs::chain(1024)),
+        ("grid 8x5", graphs::grid(8, 5)),
         ("grid 32x10", graphs::grid(32, 10)),
         ("grid 32x32", graphs::grid(32, 32)),
         ("hub 1024", graphs::hub(1024)),
@@ -152,32 +153,32 @@ fn solve(draw: &mut Draw, graph: &Graph, limit: usize) -> String {
     let mut solver = Gradient::from_list(n, &call.lists[4]);
     let mut x = zeros.clone();
     let mut count = 0;
-    let rust = micros(|| {
+    let rust = |_: &mut Call| {
         x.copy_from_slice(&zeros);
         count = solver.solve(&matrix, black_box(&b), &mut x, 0.0, limit);
-    });
+    };
     let start = call.lists[6].clone();
-    let mut told = (0, 0, 0);
-    let door = micros(|| {
+    let mut ended = (0, 0, 0);
+    let door = |call: &mut Call| {
         call.lists[6].copy_from_slice(&start);
-        let (refused, places) = endings::made(&mut call);
-        told = (refused, places.how, places.count);
-    });
-    let inner = micros(|| {
+        let (refused, places) = endings::made(call);
+        ended = (refused, places.how, places.count);
+    };
+    let inner = |call: &mut Call| {
         call.lists[6].copy_from_slice(&start);
-        inside::conjugate_gradient(&mut call);
-    });
-    assert_eq!((told, count), ((0, 5, limit), limit), "every turn is made");
-    let (door, inner) = (door / rust, inner / rust);
-    format!("{limit} turns {door:.2} {inner:.2} ({rust:.1})")
+        inside::conjugate_gradient(call);
+    };
+    let times = told(by_turns(&mut call, rust, door, inner));
+    assert_eq!((ended, count), ((0, 5, limit), limit), "every turn is made");
+    format!("{limit} turns {times}")
 }
 
 fn update(draw: &mut Draw, graph: &Graph) -> String {
     let mut call = solves::update(draw, 0, graph);
     let matrix = matrix(&call);
     let mut solver = Gradient::updated(&matrix);
-    let rust = micros(|| solver.update(black_box(&matrix)));
-    let door = micros(|| assert_eq!(doors::made(&mut call).0, 0, "refused")) / rust;
-    let inner = micros(|| inside::update_preconditioner(&mut call)) / rust;
-    format!("update {door:.2} {inner:.2} ({rust:.1})")
+    let rust = |_: &mut Call| solver.update(black_box(&matrix));
+    let door = |call: &mut Call| assert_eq!(doors::made(call).0, 0, "refused");
+    let times = by_turns(&mut call, rust, door, inside::update_preconditioner);
+    format!("update {}", told(times))
 }

@@ -118,11 +118,15 @@ pub fn solve(call: &mut Call) {
     }
 }
 
-pub fn block_index(call: &mut Call) {
-    match (&call.numbers[..], &mut call.lists[..]) {
-        (&[_, row, col], [row_offsets, cols, _]) => unsafe {
-            black_box(lend!(inside_block_index(; row_offsets, cols; row, col as u32;)));
-        },
+/// The slots of many rows and columns.
+pub fn searches(call: &mut Call, asked: &[(u32, u32)]) {
+    match &mut call.lists[..] {
+        [row_offsets, cols, _] => {
+            for &(row, col) in asked {
+                let row = row as usize;
+                black_box(unsafe { lend!(inside_block_index(; row_offsets, cols; row, col;)) });
+            }
+        }
         _ => unreachable!("{SHAPE}"),
     }
 }

@@ -19,6 +19,7 @@ mod plans;
 mod proved;
 mod roots;
 mod rows;
+mod rules;
 mod rust;
 mod second;
 mod sides;
@@ -41,8 +42,9 @@ use std::process::ExitCode;
 const SEED: u64 = 1;
 const TIMED: usize = 100_000;
 
-/// `compare` is the gate's run. `compare rounds SEED COUNT` repeats all but the root and the times, and
-/// `compare roots` takes the root of every bit pattern.
+/// `compare` is the gate's run. `compare rounds SEED COUNT` repeats all but the root and the times,
+/// `compare rules SEED COUNT` the rules alone, `compare roots` takes the root of every bit pattern, and
+/// `compare times` prints the times alone.
 fn main() -> ExitCode {
     // The compiler is to know nothing of either side when it makes the calls.
     let sides = &Sides {
@@ -54,8 +56,10 @@ fn main() -> ExitCode {
     let differences = match words[..] {
         [] => gate(sides, &mut Draw::new(SEED)),
         ["roots"] => every_root(sides),
-        ["rounds", seed, count] => rounds(sides, number(seed), number(count)),
-        _ => panic!("compare, compare roots, or compare rounds SEED COUNT"),
+        ["times"] => times(&mut Draw::new(SEED)),
+        ["rounds", seed, count] => rounds(seed, count, |draw| round(sides, draw)),
+        ["rules", seed, count] => rounds(seed, count, rules::compare),
+        _ => panic!("compare, compare roots, compare times, or compare rounds|rules SEED COUNT"),
     };
     if differences == 0 {
         ExitCode::SUCCESS
@@ -69,22 +73,28 @@ fn number(word: &str) -> u64 {
 }
 
 fn gate(sides: &Sides, draw: &mut Draw) -> usize {
-    let differences = root(sides, draw) + plane(sides, draw) + lent(sides, draw) + calls(draw);
+    root(sides, draw) + plane(sides, draw) + lent(sides, draw) + calls(draw) + times(draw)
+}
+
+/// Times differ from run to run, so they are told and never count as differences.
+fn times(draw: &mut Draw) -> usize {
     times::report(draw);
     plans::times(draw);
     direct::times(draw);
     gradients::times(draw);
     step_times::times(draw);
-    differences
+    0
 }
 
 /// Round k draws from seed + k.
-fn rounds(sides: &Sides, seed: u64, count: u64) -> usize {
-    let round = |k| {
-        let draw = &mut Draw::new(seed + k);
-        plane(sides, draw) + lent(sides, draw) + calls(draw)
-    };
-    (0..count).map(round).sum()
+fn rounds(seed: &str, count: &str, round: impl Fn(&mut Draw) -> usize) -> usize {
+    let (seed, count) = (number(seed), number(count));
+    let rounds = (0..count).map(|k| round(&mut Draw::new(seed + k)));
+    rounds.sum()
+}
+
+fn round(sides: &Sides, draw: &mut Draw) -> usize {
+    plane(sides, draw) + lent(sides, draw) + calls(draw)
 }
 
 fn calls(draw: &mut Draw) -> usize {
@@ -95,6 +105,7 @@ fn calls(draw: &mut Draw) -> usize {
         + steps::compare(draw)
         + tallies::compare(draw)
         + rows::compare(draw)
+        + rules::compare(draw)
 }
 
 /// Beside the processor's own instruction: what the Rust calls.

@@ -5,7 +5,7 @@ use crate::calls::{beside_second, same};
 use crate::damage::damage;
 use crate::judge::Judged;
 use crate::starts::{reading, Reading};
-use crate::times::{exact, micros};
+use crate::times::{by_turns, exact, micros, told};
 use crate::{doors, inside};
 use oracle::blocks::{self, Blocks};
 use oracle::call::{Call, Operation};
@@ -192,12 +192,12 @@ pub fn times(draw: &mut Draw) {
     ] {
         let mut call = exact(draw, Operation::Plan, &graph);
         let matrix = Blocks::from_pairs(graph.n, &graph.flat());
-        let rust = micros(|| drop(black_box(Plan::new(black_box(&matrix)))));
         let mut refused = 0;
-        let door = micros(|| refused = doors::made(&mut call).0) / rust;
-        let inner = micros(|| inside::plan(&mut call)) / rust;
+        let rust = |_: &mut Call| drop(black_box(Plan::new(black_box(&matrix))));
+        let door = |call: &mut Call| refused = doors::made(call).0;
+        let plan = told(by_turns(&mut call, rust, door, inside::plan));
         let test = micros(|| inside::well_formed(&mut call));
         let besides = if refused == 0 { "" } else { ", refused by 7" };
-        println!("{name}: plan {door:.2} {inner:.2} ({rust:.1}); well_formed {test:.1}{besides}");
+        println!("{name}: plan {plan}; well_formed {test:.1}{besides}");
     }
 }

@@ -2,7 +2,7 @@
 
 use crate::inside;
 use crate::step::{made, marks};
-use crate::times::{matrix, micros};
+use crate::times::{by_turns, matrix, told};
 use oracle::blocks::vectors;
 use oracle::call::{Call, Operation};
 use oracle::draw::Draw;
@@ -17,6 +17,7 @@ pub fn times(draw: &mut Draw) {
     for (name, graph) in [
         ("chain 1024", graphs::chain(1024)),
         ("grid 32x10", graphs::grid(32, 10)),
+        ("grid 8x5", graphs::grid(8, 5)),
     ] {
         let system = System::new(draw, &graph, 0);
         let solved = solve(direct(draw, Operation::SolveStep, system.clone()));
@@ -25,32 +26,36 @@ pub fn times(draw: &mut Draw) {
     }
 }
 
-fn beside(call: &mut Call, mut inner: impl FnMut(&mut Call, &mut [u8]), rust: f64) -> String {
-    let mut pinned = marks(call);
-    let door = micros(|| {
-        let said = made(call, &mut pinned);
+fn beside(
+    call: &mut Call,
+    mut rust: impl FnMut(),
+    mut inner: impl FnMut(&mut Call, &mut [u8]),
+) -> String {
+    let pinned = marks(call);
+    let door = |(call, pinned): &mut (&mut Call, Vec<u8>)| {
+        let said = made(call, pinned);
         assert_eq!((said.refused, said.ending.how), (0, 0), "by the factor");
-    });
-    let inner = micros(|| inner(call, &mut pinned));
-    format!("{:.2} {:.2} ({rust:.1})", door / rust, inner / rust)
+    };
+    let inner = |(call, pinned): &mut (&mut Call, Vec<u8>)| inner(call, pinned);
+    told(by_turns(&mut (call, pinned), |_| rust(), door, inner))
 }
 
 fn solve(mut call: Call) -> String {
     let n = call.n();
     let (mut step, b) = (Step::new(&call, matrix(&call)), vectors(&call.lists[10], n));
     let mut x = b.clone();
-    let rust = micros(|| step.solve(black_box(&b), &mut x));
-    beside(&mut call, |call, _| inside::step_route(call), rust)
+    let rust = || step.solve(black_box(&b), &mut x);
+    beside(&mut call, rust, |call, _| inside::step_route(call))
 }
 
 fn respond(mut call: Call) -> String {
     let (mut step, entries) = (Step::new(&call, matrix(&call)), entries(&call));
     let mut out = vectors(&call.lists[13], call.n());
-    let rust = micros(|| {
+    let rust = || {
         black_box(step.respond(black_box(&entries), &mut out));
-    });
+    };
     let inner = |call: &mut Call, pinned: &mut [u8]| {
         black_box(inside::respond(call, pinned));
     };
-    beside(&mut call, inner, rust)
+    beside(&mut call, rust, inner)
 }

@@ -16,19 +16,68 @@ const RUN: Duration = Duration::from_millis(2);
 /// Ordinary values.
 const TURN: usize = 0;
 
+/// What is timed: so many calls make a run, and the best run so far took so many microseconds a call.
+struct Timed<F> {
+    call: F,
+    calls: u32,
+    best: f64,
+}
+
+impl<F> Timed<F> {
+    fn new<S>(call: F, state: &mut S) -> Self
+    where
+        F: FnMut(&mut S),
+    {
+        let mut timed = Timed {
+            call,
+            calls: 1,
+            best: f64::INFINITY,
+        };
+        while timed.run(state) < RUN {
+            timed.calls *= 2;
+        }
+        timed
+    }
+
+    fn run<S>(&mut self, state: &mut S) -> Duration
+    where
+        F: FnMut(&mut S),
+    {
+        let start = Instant::now();
+        (0..self.calls).for_each(|_| (self.call)(state));
+        let took = start.elapsed();
+        let each = took.as_secs_f64() * 1e6 / f64::from(self.calls);
+        self.best = self.best.min(each);
+        took
+    }
+}
+
 /// Microseconds to a call, the best of several runs.
 pub fn micros(mut call: impl FnMut()) -> f64 {
-    let mut run = |calls: u32| {
-        let start = Instant::now();
-        (0..calls).for_each(|_| call());
-        start.elapsed()
-    };
-    let mut calls = 1;
-    while run(calls) < RUN {
-        calls *= 2;
+    let mut timed = Timed::new(|()| call(), &mut ());
+    for _ in 0..RUNS {
+        timed.run(&mut ());
     }
-    let best = (0..RUNS).map(|_| run(calls)).min();
-    best.unwrap_or(RUN).as_secs_f64() * 1e6 / f64::from(calls)
+    timed.best
+}
+
+/// The Rust, the door and the work behind it by turns, so that a machine that slows down slows all
+/// three: the door's time and the work's over the Rust's, and the Rust's in microseconds.
+pub fn by_turns<S>(
+    state: &mut S,
+    rust: impl FnMut(&mut S),
+    door: impl FnMut(&mut S),
+    inner: impl FnMut(&mut S),
+) -> [f64; 3] {
+    let mut rust = Timed::new(rust, state);
+    let mut door = Timed::new(door, state);
+    let mut inner = Timed::new(inner, state);
+    for _ in 0..RUNS {
+        rust.run(state);
+        door.run(state);
+        inner.run(state);
+    }
+    [door.best / rust.best, inner.best / rust.best, rust.best]
 }
 
 pub fn report(draw: &mut Draw) {
@@ -37,6 +86,7 @@ pub fn report(draw: &mut Draw) {
     for (name, graph) in [
         ("chain 1024", graphs::chain(1024)),
         ("grid 32x32", graphs::grid(32, 32)),
+        ("grid 8x5", graphs::grid(8, 5)),
         ("hub 1024", graphs::hub(1024)),
         ("complete 90", graphs::complete(90)),
         ("random 4096", random),
@@ -45,8 +95,9 @@ pub fn report(draw: &mut Draw) {
         let mul = mul(draw, &graph);
         let pin = make_dirichlet(draw, &graph);
         let index = block_index(draw, &graph);
+        let any = any_slots(draw, &graph);
         let test = well_formed(draw, &graph);
-        println!("{name}: from_pairs {build}, mul {mul}, make_dirichlet {pin}, block_index {index}; well_formed {test:.1}");
+        println!("{name}: from_pairs {build}, mul {mul}, make_dirichlet {pin}, block_index {index}, any slots {any}; well_formed {test:.1}");
     }
 }
 
@@ -60,16 +111,21 @@ pub fn exact(draw: &mut Draw, operation: Operation, graph: &Graph) -> Call {
     call
 }
 
-fn beside(call: &mut Call, inner: fn(&mut Call), rust: f64) -> String {
-    let door = micros(|| assert_eq!(doors::made(call).0, 0, "refused"));
-    let inner = micros(|| inner(call));
-    format!("{:.2} {:.2} ({rust:.3})", door / rust, inner / rust)
+fn beside(call: &mut Call, mut rust: impl FnMut(), inner: fn(&mut Call)) -> String {
+    let door = |call: &mut Call| assert_eq!(doors::made(call).0, 0, "refused");
+    told(by_turns(call, |_| rust(), door, inner))
+}
+
+/// The door's ratio, the work's, and behind them the Rust's microseconds.
+pub fn told([door, inner, rust]: [f64; 3]) -> String {
+    format!("{door:.2} {inner:.2} ({rust:.3})")
 }
 
 fn from_pairs(draw: &mut Draw, graph: &Graph) -> String {
     let mut call = exact(draw, Operation::FromPairs, graph);
-    let rust = micros(|| drop(black_box(Blocks::from_pairs(graph.n, &call.lists[0]))));
-    beside(&mut call, inside::build, rust)
+    let pairs = call.lists[0].clone();
+    let rust = || drop(black_box(Blocks::from_pairs(graph.n, &pairs)));
+    beside(&mut call, rust, inside::build)
 }
 
 pub fn matrix(call: &Call) -> Blocks {
@@ -81,8 +137,8 @@ fn mul(draw: &mut Draw, graph: &Graph) -> String {
     let mut call = exact(draw, Operation::Mul, graph);
     let (matrix, x) = (matrix(&call), vectors(&call.lists[4], graph.n));
     let mut out = x.clone();
-    let rust = micros(|| matrix.mul(black_box(&x), &mut out));
-    beside(&mut call, inside::mul, rust)
+    let rust = || matrix.mul(black_box(&x), &mut out);
+    beside(&mut call, rust, inside::mul)
 }
 
 /// Of the middle row, which is the hub's.
@@ -91,22 +147,48 @@ fn make_dirichlet(draw: &mut Draw, graph: &Graph) -> String {
     let row = graph.n / 2;
     call.numbers[1] = row;
     let mut matrix = matrix(&call);
-    let rust = micros(|| matrix.make_dirichlet(black_box(row as u32)));
-    beside(&mut call, inside::make_dirichlet, rust)
+    let rust = || matrix.make_dirichlet(black_box(row as u32));
+    beside(&mut call, rust, inside::make_dirichlet)
 }
 
-/// In the middle row, a column that is stored.
+/// The door: in the middle row, a column that is stored. The search: the same slot again and again.
 fn block_index(draw: &mut Draw, graph: &Graph) -> String {
     let mut call = exact(draw, Operation::BlockIndex, graph);
     let row = graph.n / 2;
     let col = call.lists[1][call.lists[0][row] as usize];
     call.numbers = vec![graph.n, row, col as usize];
+    searches(&mut call, &[(row as u32, col); ASKED])
+}
+
+/// The search: slots of any row, every other one of a column that is stored.
+fn any_slots(draw: &mut Draw, graph: &Graph) -> String {
+    let mut call = exact(draw, Operation::BlockIndex, graph);
+    let mut asked = [(0, 0); ASKED];
+    for (turn, place) in asked.iter_mut().enumerate() {
+        let row = draw.below(graph.n as u32);
+        let [start, end] = [row, row + 1].map(|at| call.lists[0][at as usize]);
+        let stored = call.lists[1][(start + draw.below(end - start)) as usize];
+        let any = draw.below(graph.n as u32);
+        *place = (row, if turn % 2 == 0 { stored } else { any });
+    }
+    searches(&mut call, &asked)
+}
+
+/// How many slots are asked for in one go: one takes a few nanoseconds, and a processor foresees a short list.
+const ASKED: usize = 20_000;
+
+fn searches(call: &mut Call, asked: &[(u32, u32); ASKED]) -> String {
     let pattern = [0, 1, 2].map(|at| call.lists[at].as_slice());
-    let matrix = Blocks::from_lists(graph.n, pattern, &[]);
-    let rust = micros(|| {
-        black_box(matrix.block_index(black_box(row as u32), black_box(col)));
-    });
-    beside(&mut call, inside::block_index, rust)
+    let matrix = Blocks::from_lists(call.n(), pattern, &[]);
+    let rust = |_: &mut Call| {
+        for &(row, col) in black_box(asked) {
+            black_box(matrix.block_index(row, col));
+        }
+    };
+    let door = |call: &mut Call| assert_eq!(doors::made(call).0, 0, "refused");
+    let inner = |call: &mut Call| inside::searches(call, black_box(asked));
+    let [door, inner, rust] = by_turns(call, rust, door, inner);
+    told([door * ASKED as f64, inner, rust / ASKED as f64])
 }
 
 /// The test that every door over a pattern makes.

@@ -63,7 +63,16 @@ pub fn factorizing(
     if !checked::given::pattern_formed(n, row_offsets, cols, diagonal) {
         return 5;
     }
-    if !enclosed::inside::fits(n, row_offsets, cols, perm, inv_perm, first, row_start) {
+    if !enclosed::inside::fits(
+        n,
+        row_offsets,
+        cols,
+        diagonal,
+        perm,
+        inv_perm,
+        first,
+        row_start,
+    ) {
         return 6;
     }
     if !short(n, row_start) {

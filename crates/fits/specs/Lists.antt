@@ -9,7 +9,7 @@ use native.Mathlib.Omega.{arith}
 use lib.ListN.{length}
 use Rattle.law.specs.Limit.{particles}
 use Rattle.law.specs.Truth.{same-or}
-use Rattle.shape.specs.Rows.{at, Rows, row-end}
+use Rattle.shape.specs.Rows.{at}
 use Rattle.fits.specs.Fits.{Planned, plannedOk, firstsOk, firsts-is, planned-is}
 
 -- the lists have the places that a plan for n particles fills
@@ -60,16 +60,3 @@ pub record Placed (n : ℕ) (inverse first : List ℕ) : Type 0 where
 
 pub placed-of : (n : ℕ) (order inverse first starts : List ℕ) → Plan n order inverse first starts → Placed n inverse first
 placed-of n order inverse first starts w = record { marks = w .laid .marks; firsts = w .laid .firsts; position = w .planned .position }
-
--- the slots a..b of a row: each one's column is a particle that has a position
-pub record Slots (cols inverse : List ℕ) (a b : ℕ) : Type 0 where
-  pub order : a ≤ b
-  pub columns : b ≤ length cols
-  pub marks : (k : ℕ) → a ≤ k → k < b → at cols k < length inverse
-
-pub slots-of : (n : ℕ) (starts cols inverse first : List ℕ) → Rows n starts cols → Placed n inverse first → (r : ℕ) → r < n → Slots cols inverse (at starts r) (at starts (r + 1))
-slots-of n starts cols inverse first w p r l = record {
-  order = w .rise r l;
-  columns = omega (arith, row-end n (at starts) (w .rise) r l, w .columns);
-  marks = λ k h g. omega (arith, w .below r k l (h, g), p .marks);
-}

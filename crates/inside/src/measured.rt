@@ -4,6 +4,7 @@ use turn::Outcome;
 ghost use mathlib.Core.Path.{_≡_};
 ghost use Prim.Native.Nat.{_*_, _≤_, _<_};
 ghost use lib.ListN.{length};
+ghost use Rattle.law.specs.Limit.{particles};
 ghost use Rattle.shape.specs.Rows.{at, Held, Rows, Pattern};
 ghost use Rattle.shape.specs.Index.{Line};
 ghost use Rattle.build.specs.Build.{Ready};
@@ -36,7 +37,7 @@ pub extern "C" fn inside_well_formed(
     cols: &[u32],
     diagonal: &[u32],
 ) -> bool
-    requires { ⌜ Held n m (now «row_offsets») (now cols) (now diagonal) ⌝ }
+    requires { ⌜ (n ≤ particles) × Held n m (now «row_offsets») (now cols) (now diagonal) ⌝ }
 {
     checked::formed::well_formed(n, m, row_offsets, cols, diagonal)
 }

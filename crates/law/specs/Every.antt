@@ -5,7 +5,7 @@ use mathlib.Core.Bool.{Bool, true, false, _&&_, _||_}
 use mathlib.Core.Logic.{⊎-elim}
 use native.Mathlib.Omega.{arith}
 use Rattle.law.specs.Loop.{fold, over, over-none, over-more}
-use Rattle.law.specs.Truth.{both, and-true, either, or-right, below-or, alike}
+use Rattle.law.specs.Truth.{both, and-true, either, or-right, below-or}
 
 unfoldable pub every : (ℕ → Bool) → ℕ → ℕ → Bool
 every p a b = over (λ k ok. ok && p k) a b true
@@ -77,9 +77,3 @@ module _ (p : ℕ → Bool) (a : ℕ) where
   some-of b k g l t =
       let e : a + (k - a) ≡ k = omega arith in
       one-of (b - a) (k - a) (omega arith) (rw e t)
-
--- where only numbers of low..high pass, no others need asking
-pub some-within : (p : ℕ → Bool) (a b low high : ℕ) → a ≤ low → high ≤ b → ((k : ℕ) → a ≤ k → k < b → p k ≡ true → (low ≤ k) × (k < high)) → some p low high ≡ some p a b
-some-within p a b low high g l h =
-    alike (some p low high) (some p a b) (λ t. let w = some-at p low high t in some-of p a b (w .0) (omega (arith, w .1 .0)) (omega (arith, w .1 .1 .0)) (w .1 .1 .1))
-    (λ t. let w = some-at p a b t in let i = h (w .0) (w .1 .0) (w .1 .1 .0) (w .1 .1 .1) in some-of p low high (w .0) (i .0) (i .1) (w .1 .1 .1))

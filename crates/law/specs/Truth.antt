@@ -3,6 +3,7 @@ use Prim.Native.Nat.{ℕ, _≤_, _<_}
 use mathlib.Core.Path.{_≡_, refl, sym}
 use mathlib.Core.Bool.{Bool, true, false, not, _&&_, _||_}
 use mathlib.Core.Logic.{_⊎_, inl, inr}
+use native.Mathlib.Omega.{arith}
 use lib.Dec.{ltb, eqb}
 use borrow.Author.Tests.{ltb-true, ltb-false, eqb-true, eqb-false, not-true, not-false}
 
@@ -32,6 +33,15 @@ refused x t e h = cc (not-true x h)
 
 pub passed : (x t : Bool) → x ≡ t → not x ≡ false → t ≡ true
 passed x t e h = cc (not-false x h)
+
+-- a test has one of two answers, and not both
+pub holds-or : (t : Bool) → (t ≡ true) ⊎ (t ≡ false)
+holds-or true = inl refl
+holds-or false = inr refl
+
+pub clash : (t : Bool) → t ≡ false → t ≡ true → ⊥
+clash true u v = let z : _≡_ {A = ℕ} 0 1 = cc in omega arith
+clash false u v = let z : _≡_ {A = ℕ} 0 1 = cc in omega arith
 
 -- a test that can't hold
 pub untrue : (t : Bool) → (t ≡ true → ⊥) → t ≡ false

@@ -10,15 +10,18 @@ use native.Mathlib.Nat.{add-zero}
 use lib.Dec.{leb, ltb, eqb}
 use lib.ListN.{length, getD, drop}
 use lib.Ieee.{Float, nan}
-use borrow.Author.Tests.{leb-true, ltb-true, eqb-true, eqb-false, le-leb, lt-ltb}
+use borrow.Author.Tests.{leb-true, ltb-true, eqb-true, eqb-false, le-leb, lt-ltb, eq-eqb, ne-eqb}
+use Rattle.law.specs.Loop.{climbing}
+use Rattle.law.specs.Limit.{absent}
+use Rattle.law.specs.Find.{find, find-first}
 use Rattle.law.specs.Truth.{both, and-true, below-or}
 use Rattle.law.specs.Store.{drop-written, written-long}
 use Rattle.law.specs.Mix.{mix, Holds, part-new, part-else, part-kept, mix-of}
 use Rattle.plane.specs.Plane.{Block}
 use Rattle.plane.specs.Lent.{flat, blockAt, withBlock}
-use Rattle.shape.specs.Formed.{InRow}
+use Rattle.shape.specs.Formed.{InRow, Stored}
 use Rattle.shape.specs.Rows.{at, Pattern, row-end, row-of, one-slot}
-use Rattle.shape.specs.Index.{indexOf, Line, line-of, index-is}
+use Rattle.shape.specs.Index.{indexOf, Slots, Line, line-of, index-is}
 use Rattle.values.specs.Dirichlet.{identity, zeroBlock, inRow, pinnedAt, pinned}
 
 -- the slot of the row `row` in the row that slot k's column names
@@ -35,10 +38,65 @@ pub crossed-is : (starts cols : List ℕ) (row k : ℕ) (l : List Float) (q : �
 unfolding crossed
 crossed-is starts cols row k l q t u e f g = rw (g, f, e)
 
+-- ---- the mirror is looked for in half of its row
+
+-- row c lies within the lists, its diagonal stands where it is recorded, and one of its slots has the column `row`
+pub record Facing (starts cols diagonal : List ℕ) (c row : ℕ) : Type 0 where
+  pub line : Line starts cols c
+  pub mark : c < length diagonal
+  pub home : InRow (at starts) c (at diagonal c) × (at cols (at diagonal c) ≡ c)
+  pub stored : Stored (at starts) (at cols) c row
+
+module _ (starts cols diagonal : List ℕ) (c row : ℕ) (f : Facing starts cols diagonal c row) where
+  abbrev slot : ℕ
+  slot = f .stored .0
+
+  -- the columns rise, so the slot is the first of those from a to b, if it is one of them
+  only : (a b : ℕ) → at starts c ≤ a → b ≤ at starts (c + 1) → a ≤ slot → slot < b → find (λ k. eqb (at cols k) row) a b absent ≡ slot
+  only a b g h u v =
+      find-first (λ k. eqb (at cols k) row) absent a b slot u v (eq-eqb _ _ (f .stored .1 .1))
+      (λ j m i. ne-eqb (at cols j) row (λ q. omega (arith, f .stored .1 .1, climbing (at cols) (at starts c) (at starts (c + 1)) (f .line .strict) j slot (omega arith) i (f .stored .1 .0 .1))))
+
+  index : indexOf (at starts) (at cols) c row ≡ slot
+  unfolding indexOf
+  index = only (at starts c) (at starts (c + 1)) (omega arith) (omega arith) (f .stored .1 .0 .0) (f .stored .1 .0 .1)
+
+  pub upper : c < row → find (λ k. eqb (at cols k) row) (at diagonal c + 1) (at starts (c + 1)) absent ≡ indexOf (at starts) (at cols) c row
+  upper l =
+      let h = f .home in
+      let u : at diagonal c + 1 ≤ slot =
+      ⊎-elim (λ (g : at diagonal c < slot). omega arith)
+      (λ (g : slot ≤ at diagonal c). absurd (⊎-elim (λ i. omega (arith, f .stored .1 .1, h .1, climbing (at cols) (at starts c) (at starts (c + 1)) (f .line .strict) slot (at diagonal c) (f .stored .1 .0 .0) i (h .0 .1))) (λ i. let e : slot ≡ at diagonal c = omega arith in omega (arith, f .stored .1 .1, h .1, ap (at cols) e)) (below-or slot (at diagonal c)))) (below-or (at diagonal c) slot) in
+      only (at diagonal c + 1) (at starts (c + 1)) (omega (arith, h .0 .0)) (omega arith) u (f .stored .1 .0 .1) ∙ sym index
+
+  pub lower : row ≤ c → find (λ k. eqb (at cols k) row) (at starts c) (at diagonal c + 1) absent ≡ indexOf (at starts) (at cols) c row
+  lower l =
+      let h = f .home in
+      let u : slot < at diagonal c + 1 =
+      ⊎-elim (λ (g : at diagonal c < slot). absurd (omega (arith, f .stored .1 .1, h .1, climbing (at cols) (at starts c) (at starts (c + 1)) (f .line .strict) (at diagonal c) slot (h .0 .0) g (f .stored .1 .0 .1)))) (λ (g : slot ≤ at diagonal c). omega arith) (below-or (at diagonal c) slot) in
+      only (at starts c) (at diagonal c + 1) (omega arith) (omega (arith, h .0 .1)) (f .stored .1 .0 .0) u ∙ sym index
+
+  -- the slots of either half can be searched
+  pub upper-slots : at starts (c + 1) ≤ absent → Slots cols (at diagonal c + 1) (at starts (c + 1))
+  upper-slots few = record {
+    order = omega (arith, f .home .0 .1);
+    columns = f .line .columns;
+    few = few;
+    strict = λ k h g. f .line .strict k (omega (arith, f .home .0 .0)) g;
+  }
+
+  pub lower-slots : at starts (c + 1) ≤ absent → Slots cols (at starts c) (at diagonal c + 1)
+  lower-slots few = record {
+    order = omega (arith, f .home .0 .0);
+    columns = omega (arith, f .home .0 .1, f .line .columns);
+    few = omega (arith, f .home .0 .1);
+    strict = λ k h g. f .line .strict k h (omega (arith, f .home .0 .1));
+  }
+
 -- what a turn needs
-pub record Cross (starts cols : List ℕ) (row k : ℕ) (l : List Float) : Type 0 where
+pub record Cross (starts cols diagonal : List ℕ) (row k : ℕ) (l : List Float) : Type 0 where
   pub column : k < length cols
-  pub line : Line starts cols (at cols k)
+  pub facing : Facing starts cols diagonal (at cols k) row
   pub slot : 4 * k + 3 < length l
   pub mirror : 4 * mirrorOf starts cols row k + 3 < length l
 
@@ -92,12 +150,18 @@ module _ (n : ℕ) (starts cols diagonal : List ℕ) (p : Pattern n starts cols 
       let e : mirrorOf starts cols row k ≡ w .0 = index-is n _ _ _ _ (p .formed) (at cols k) c (w .0) row (w .1 .0) (w .1 .1) in
       rw e (omega (arith, w .1 .0 .1, row-end n (at starts) (p .formed .rise) (at cols k) c), w .1 .1)
 
-  pub cross-at : (k : ℕ) → InRow (at starts) row k → (l : List Float) → 4 * at starts n ≤ length l → Cross starts cols row k l
+  pub cross-at : (k : ℕ) → InRow (at starts) row k → (l : List Float) → 4 * at starts n ≤ length l → Cross starts cols diagonal row k l
   cross-at k i l room =
       let h = slot-room k i in
+      let c = p .formed .below row k below i in
       record {
         column = omega (arith, p .held .columns);
-        line = line-of n starts cols diagonal p (at cols k) (p .formed .below row k below i);
+        facing = record {
+          line = line-of n starts cols diagonal p (at cols k) c;
+          mark = omega (arith, p .held .marks);
+          home = p .formed .home (at cols k) c;
+          stored = p .formed .mirrored row (at cols k) below (k, (i, refl));
+        };
         slot = omega arith;
         mirror = omega (arith, mirror-is k i .0);
       }

@@ -4,18 +4,40 @@ ghost use Prim.Native.Nat.{_*_, _≤_, _<_};
 ghost use lib.ListN.{length};
 ghost use Rattle.law.specs.Mix.{mix};
 ghost use Rattle.shape.specs.Rows.{at, Pattern};
+ghost use Rattle.shape.specs.Index.{indexOf};
 ghost use Rattle.values.specs.Dirichlet.{pinned};
-ghost use Rattle.pinned.specs.Mirrors.{crossed, Cross};
+ghost use Rattle.pinned.specs.Mirrors.{crossed, Facing, Cross};
+
+// The slot of row c that has the column `row`: behind c's diagonal where c is less, and else up to it, so that half a row is searched.
+fn mirror(row_offsets: &[u32], cols: &[u32], diagonal: &[u32], c: usize, row: u32) -> u32
+    requires { ⌜ Facing (now «row_offsets») (now cols) (now diagonal) c row ⌝ }
+    ensures { λ r. ⌜ r ≡ indexOf (at (now («row_offsets» .entry))) (at (now (cols .entry))) c row ⌝ }
+{
+    let end = law::wide(row_offsets[c + 1]);
+    let behind = law::wide(diagonal[c]) + 1;
+    if c < law::wide(row) {
+        return shape::index::search(cols, behind, end, row);
+    }
+    let start = law::wide(row_offsets[c]);
+    shape::index::search(cols, start, behind, row)
+}
 
 // Slot k of a row and its mirror, the row's slot in the row that the slot's column names, set to zero. On the diagonal the two are one.
-fn clear_cross(row_offsets: &[u32], cols: &[u32], row: u32, k: usize, blocks: &mut [f32])
-    requires { ⌜ Cross (now «row_offsets») (now cols) row k (now blocks) ⌝ }
+fn clear_cross(
+    row_offsets: &[u32],
+    cols: &[u32],
+    diagonal: &[u32],
+    row: u32,
+    k: usize,
+    blocks: &mut [f32],
+)
+    requires { ⌜ Cross (now «row_offsets») (now cols) (now diagonal) row k (now blocks) ⌝ }
     ensures { λ _. ⌜ now (blocks .exit) ≡ crossed (now («row_offsets» .entry)) (now (cols .entry)) row k (now (blocks .entry)) ⌝ }
 {
     let c = law::wide(cols[k]);
-    let mirror = law::wide(shape::index::block_index(row_offsets, cols, c, row));
+    let other = law::wide(mirror(row_offsets, cols, diagonal, c, row));
     vectors::inner::set_block(blocks, k, [[0.0, 0.0], [0.0, 0.0]]);
-    vectors::inner::set_block(blocks, mirror, [[0.0, 0.0], [0.0, 0.0]]);
+    vectors::inner::set_block(blocks, other, [[0.0, 0.0], [0.0, 0.0]]);
 }
 
 // A row pinned: identity on its diagonal, zero in the rest of the row and in its mirrors.
@@ -36,7 +58,7 @@ pub fn make_dirichlet(
     let end = law::wide(row_offsets[row + 1]);
     let col = row as u32;
     for k in start..end {
-        clear_cross(row_offsets, cols, col, k, blocks);
+        clear_cross(row_offsets, cols, diagonal, col, k, blocks);
     }
     let slot = law::wide(diagonal[row]);
     vectors::inner::set_block(blocks, slot, [[1.0, 0.0], [0.0, 1.0]]);

@@ -6,7 +6,7 @@ ghost use lib.Dec.{leb};
 ghost use lib.ListN.{length};
 ghost use Rattle.law.specs.Limit.{particles, envelope};
 ghost use Rattle.law.specs.Refusal.{when};
-ghost use Rattle.shape.specs.Rows.{at, Rows};
+ghost use Rattle.shape.specs.Rows.{at, Pattern};
 ghost use Rattle.fits.specs.Fits.{fitsOk};
 ghost use Rattle.fits.specs.Lists.{Laid};
 ghost use Rattle.fits.specs.Given.{lengthOf};
@@ -48,19 +48,29 @@ pub fn plan_fits(
     n: usize,
     row_offsets: &[u32],
     cols: &[u32],
+    diagonal: &[u32],
     perm: &[u32],
     inv_perm: &[u32],
     first: &[u32],
     row_start: &[u32],
 ) -> bool
-    requires { ⌜ Rows n (now «row_offsets») (now cols) ⌝ }
+    requires { ⌜ Pattern n (now «row_offsets») (now cols) (now diagonal) ⌝ }
     requires { ⌜ (dense ≡ true → Laid n (now perm) (now «inv_perm») (now first) (now «row_start»)) ⌝ }
     ensures { λ r. ⌜ r ≡ when dense (fitsOk n (at (now («row_offsets» .entry))) (at (now (cols .entry))) (at (now (perm .entry))) (at (now («inv_perm» .entry))) (at (now (first .entry))) (at (now («row_start» .entry)))) ⌝ }
 {
     if !dense {
         return true;
     }
-    enclosed::inside::fits(n, row_offsets, cols, perm, inv_perm, first, row_start)
+    enclosed::inside::fits(
+        n,
+        row_offsets,
+        cols,
+        diagonal,
+        perm,
+        inv_perm,
+        first,
+        row_start,
+    )
 }
 
 // Whether the factor is within the limit.

@@ -75,6 +75,7 @@ pub fn structure(
         n,
         row_offsets,
         cols,
+        diagonal,
         perm,
         inv_perm,
         first,

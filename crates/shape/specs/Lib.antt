@@ -2,6 +2,6 @@ pub mod Formed
 pub mod Rows
 pub mod Phases
 pub mod Made
-pub mod Halves
 pub mod Index
+pub mod Halving
 pub mod Given

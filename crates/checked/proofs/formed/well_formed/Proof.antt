@@ -1,29 +1,12 @@
--- `checked::formed::well_formed` meets its contract. What the row starts' test shows is what the rows' test requires, and what both show is what the mirrors' requires. Assumes nothing.
-use mathlib.Core.Path.{_≡_}
-use mathlib.Core.Bool.{Bool, true}
-use native.Mathlib.Omega.{arith}
+-- `checked::formed::well_formed` meets its contract. What the row starts' test shows is what the walk requires. Assumes nothing.
+use mathlib.Core.Path.{sym, _∙_}
 use borrow.Author.Needs.{needs}
-use Rattle.law.specs.Every.{every}
 use Rattle.law.specs.Truth.{passed, refused}
-use Rattle.shape.specs.Formed.{rowOk, wellFormed}
-use Rattle.shape.specs.Rows.{at}
-use Rattle.shape.specs.Phases.{Spread, Halved, spread-of, halved-of}
-use Rattle.shape.specs.Halves.{halves}
+use Rattle.shape.specs.Formed.{wellFormed, starts-is}
+use Rattle.shape.specs.Phases.{spread-of}
+use Rattle.walk.specs.Cursors.{walk-is}
 use Rattle.checked.proofs.formed.well_formed.Statement.{statement}
 use Rattle.checked.proofs.formed.well_formed.Tie as tie
-
-abbrev rows : tie.Start → Bool
-rows s = every (rowOk (s .args .n) (at (s .args .row-offsets .now)) (at (s .args .cols .now)) (at (s .args .diagonal .now))) 0 (s .args .n)
-
--- what the test of the row starts has shown
-spread : (c : tie.Else1) → let s = c .before .before .before .before .before in Spread (s .args .n) (s .args .row-offsets .now) (s .args .cols .now) (s .args .diagonal .now)
-spread c =
-    let s = c .before .before .before .before .before in
-    spread-of _ _ _ _ _ (s .pre) (passed _ _ (c .before .starts-ok .ensures) (c .if1 .left))
-
--- and the test of the rows
-all-rows : (c : tie.Else2) → rows (c .before .before .before .before .before .before .before) ≡ true
-all-rows c = passed _ (rows (c .before .before .before .before .before .before .before)) (c .before .rows-ok .ensures) (c .if2 .left)
 
 starts-ok-requires : tie.Need-starts-ok-requires
 starts-ok-requires c κs = search needs
@@ -32,43 +15,26 @@ returns : tie.Need-returns
 unfolding wellFormed
 returns c = rw (refused _ _ (c .before .starts-ok .ensures) (c .if1 .taken))
 
-rows-ok-requires : tie.Need-rows-ok-requires
-rows-ok-requires c κs = spread c
+walk-few-requires : tie.Need-walk-few-requires
+walk-few-requires c κs =
+    let e = c .before in
+    let t = passed _ _ (e .before .starts-ok .ensures) (e .if1 .left) in
+    (c .if2 .taken, spread-of _ _ _ _ _ (e .before .before .before .before .before .pre .1) t, sym (starts-is _ _ _ t .1 .1))
 
 returns-2 : tie.Need-returns-2
-unfolding wellFormed
-returns-2 c =
-    let q = c .before .before in
-    rw (passed _ _ (q .before .starts-ok .ensures) (q .if1 .left), refused _ (rows (q .before .before .before .before .before)) (c .before .rows-ok .ensures) (c .if2 .taken))
+returns-2 c = let e = c .before .before in c .walk-few .ensures ∙ walk-is _ _ _ _ _ (passed _ _ (e .before .starts-ok .ensures) (e .if1 .left))
 
-halved : (c : tie.Else2) → let s = c .before .before .before .before .before .before .before in Halved (s .args .n) (s .args .row-offsets .now) (s .args .cols .now) (s .args .diagonal .now)
-halved c =
-    let q = c .before .before in
-    let s = q .before .before .before in
-    halved-of _ _ _ _ (spread q) (λ k. omega (arith, s .shared-slice-known2 .given k)) (all-rows c)
-
-even-ok-requires : tie.Need-even-ok-requires
-even-ok-requires c κs = halved c .sides
-
-all-above-ok-requires : tie.Need-all-above-ok-requires
-all-above-ok-requires c κs = halved (c .before)
+walk-all-requires : tie.Need-walk-all-requires
+walk-all-requires c κs =
+    let e = c .before in
+    let t = passed _ _ (e .before .starts-ok .ensures) (e .if1 .left) in
+    let s = e .before .before .before .before .before in
+    (s .pre .0, spread-of _ _ _ _ _ (s .pre .1) t, sym (starts-is _ _ _ t .1 .1))
 
 returns-3 : tie.Need-returns-3
-unfolding wellFormed
-returns-3 c =
-    let q = c .before .before in
-    let p = q .before .before in
-    let starts = passed _ _ (p .before .starts-ok .ensures) (p .if1 .left) in
-    rw (starts, all-rows q, halves _ _ _ _ _ starts (all-rows q), c .all-above-ok .ensures, c .before .even-ok .ensures)
+returns-3 c = let e = c .before .before in c .walk-all .ensures ∙ walk-is _ _ _ _ _ (passed _ _ (e .before .starts-ok .ensures) (e .if1 .left))
 
 pub well-formed-spec : {M : Type 1} → statement M
 well-formed-spec =
     tie.close
-    (tie.spec
-    starts-ok-requires
-    returns
-    rows-ok-requires
-    returns-2
-    even-ok-requires
-    all-above-ok-requires
-    returns-3)
+    (tie.spec starts-ok-requires returns walk-few-requires returns-2 walk-all-requires returns-3)

@@ -2,7 +2,6 @@
 use borrow.Author.Tests.{le-leb, lt-leb}
 use Rattle.law.specs.Refusal.{goes-on, stops, ends}
 use Rattle.law.specs.Truth.{refused, passed}
-use Rattle.shape.specs.Rows.{rows-of}
 use Rattle.shape.specs.Given.{held, pattern}
 use Rattle.fits.specs.Given.{laid}
 use Rattle.direct.specs.Factorizing.{refusals}
@@ -51,7 +50,7 @@ returns-4 c =
 pattern-formed-requires : tie.Need-pattern-formed-requires
 pattern-formed-requires c κs =
     let e2 = c .before .before .before .before in
-    held _ _ _ _ (passed _ _ (e2 .before .pattern-room .ensures) (e2 .if2 .left))
+    (e2 .before .before .if1 .left, held _ _ _ _ (passed _ _ (e2 .before .pattern-room .ensures) (e2 .if2 .left)))
 
 returns-5 : tie.Need-returns-5
 unfolding refusals
@@ -67,7 +66,7 @@ fits-requires c κs =
     let e3 = c .before .before .before .before in
     let e2 = e3 .before .before in
     let few = e2 .before .before .if1 .left in
-    (rows-of _ _ _ _ (pattern _ _ _ _ few (passed _ _ (e2 .before .pattern-room .ensures) (e2 .if2 .left)) (passed _ _ (c .before .pattern-formed .ensures) (c .if5 .left))), laid _ _ _ _ _ few (passed _ _ (e3 .before .plan-room .ensures) (e3 .if3 .left)))
+    (pattern _ _ _ _ few (passed _ _ (e2 .before .pattern-room .ensures) (e2 .if2 .left)) (passed _ _ (c .before .pattern-formed .ensures) (c .if5 .left)), laid _ _ _ _ _ few (passed _ _ (e3 .before .plan-room .ensures) (e3 .if3 .left)))
 
 returns-6 : tie.Need-returns-6
 unfolding refusals

@@ -32,7 +32,9 @@ returns-3 c =
     (stops _ _ _ (refused _ _ (c .before .plan-room .ensures) (c .if3 .taken))))
 
 pattern-formed-requires : tie.Need-pattern-formed-requires
-pattern-formed-requires c κs = held _ _ _ _ (passed _ _ (c .before .before .before .pattern-room .ensures) (c .before .before .if2 .left))
+pattern-formed-requires c κs =
+    let e2 = c .before .before in
+    (e2 .before .before .if1 .left, held _ _ _ _ (passed _ _ (e2 .before .pattern-room .ensures) (e2 .if2 .left)))
 
 returns-4 : tie.Need-returns-4
 unfolding early

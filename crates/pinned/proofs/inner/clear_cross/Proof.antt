@@ -16,8 +16,8 @@ shared-slice-read-wide c = search needs
 wide-requires : tie.Need-wide-requires
 wide-requires c κs = search needs
 
-block-index-requires : tie.Need-block-index-requires
-block-index-requires c κs = rw (c .wide .ensures .same) (c .before .before .before .before .before .pre .line)
+mirror-requires : tie.Need-mirror-requires
+mirror-requires c κs = rw (c .wide .ensures .same) (c .before .before .before .before .before .before .pre .facing)
 
 wide-requires-2 : tie.Need-wide-requires-2
 wide-requires-2 c κs = search needs
@@ -26,14 +26,14 @@ set-block-requires : tie.Need-set-block-requires
 set-block-requires c κs = search needs
 
 -- what the search found is the mirror
-found : (c : tie.After-wide2) → (let s = c .before .before .before .before .before .before .before in c .wide2 .result ≡ mirrorOf (now (s .args .row-offsets)) (now (s .args .cols)) (s .args .row) (s .args .k))
-found c = rw (c .wide2 .ensures .same, c .before .block-index .ensures, c .before .before .wide .ensures .same)
+found : (c : tie.After-wide2) → (let s = c .before .before .before .before .before .before .before .before in c .wide2 .result ≡ mirrorOf (now (s .args .row-offsets)) (now (s .args .cols)) (s .args .row) (s .args .k))
+found c = rw (c .wide2 .ensures .same, c .before .mirror .ensures, c .before .before .wide .ensures .same)
 
 set-block-requires-2 : tie.Need-set-block-requires-2
 set-block-requires-2 c κs =
     let w = c .before .before .before in
     let m = w .before .before in
-    let s = m .before .before .before .before .before .before .before in
+    let s = m .before .before .before .before .before .before .before .before in
     omega (arith, found m, s .pre .slot, s .pre .mirror, w .set-block .kept .0)
 
 same-length : tie.Need-same-length
@@ -52,7 +52,7 @@ clear-cross-spec =
     mul-wide
     shared-slice-read-wide
     wide-requires
-    block-index-requires
+    mirror-requires
     wide-requires-2
     set-block-requires
     set-block-requires-2

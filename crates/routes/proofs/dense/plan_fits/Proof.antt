@@ -9,7 +9,7 @@ returns c = skips _ _ (c .if1 .taken)
 
 fits-requires : tie.Need-fits-requires
 fits-requires c κs =
-    let p = c .before .before .before .before .before .before .before .pre in
+    let p = c .before .before .before .before .before .before .before .before .pre in
     (p .0, p .1 (not-false _ (c .if1 .left)))
 
 returns-2 : tie.Need-returns-2

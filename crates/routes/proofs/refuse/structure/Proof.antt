@@ -1,7 +1,6 @@
 -- `routes::refuse::structure` meets its contract: a phase for each test. Assumes nothing.
 use Rattle.law.specs.Refusal.{goes-on, stops, ends}
 use Rattle.law.specs.Truth.{refused, passed}
-use Rattle.shape.specs.Rows.{rows-of}
 use Rattle.shape.specs.Given.{held, pattern}
 use Rattle.routes.specs.Dense.{structural}
 use borrow.Author.Needs.{needs}
@@ -9,7 +8,7 @@ use Rattle.routes.proofs.refuse.structure.Statement.{statement}
 use Rattle.routes.proofs.refuse.structure.Tie as tie
 
 pattern-formed-requires : tie.Need-pattern-formed-requires
-pattern-formed-requires c κs = held _ _ _ _ (c .before .before .before .before .before .before .before .pre .room)
+pattern-formed-requires c κs = let p = c .before .before .before .before .before .before .before .pre in (p .few, held _ _ _ _ (p .room))
 
 returns : tie.Need-returns
 unfolding structural
@@ -19,7 +18,7 @@ returns c =
 plan-fits-requires : tie.Need-plan-fits-requires
 plan-fits-requires c κs =
     let p = c .before .before .before .before .before .before .before .before .before .pre in
-    (rows-of _ _ _ _ (pattern _ _ _ _ (p .few) (p .room) (passed _ _ (c .before .pattern-formed .ensures) (c .if1 .left))), p .laid)
+    (pattern _ _ _ _ (p .few) (p .room) (passed _ _ (c .before .pattern-formed .ensures) (c .if1 .left)), p .laid)
 
 returns-2 : tie.Need-returns-2
 unfolding structural

@@ -1,121 +1,74 @@
--- `shape::index::search` meets its contract. The invariant: columns before `low` are below the one looked for, and from `high` on none is. Columns rise strictly, so the one at the half settles all on one side of it. Assumes nothing.
-use mathlib.Core.Path.{_≡_, sym}
-use Prim.Native.Nat.{ℕ, _+_, _-_, _≤_, _<_}
-use mathlib.Core.Logic.{⊎-elim}
+-- `shape::index::search` meets its contract. The invariant: where one of the slots a..b has the column, it is one of the `size` slots from `low` on.
+-- Assumes nothing.
 use native.Mathlib.Omega.{arith}
-use lib.Dec.{eqb}
 use borrow.Author.Needs.{needs}
-use borrow.Author.Tests.{eq-eqb, ne-eqb}
-use Rattle.law.specs.Loop.{climbing}
-use Rattle.law.specs.Truth.{below-or}
-use Rattle.law.specs.Find.{find, find-none, find-first}
-use Rattle.law.specs.Limit.{absent}
+use denote.Ref.{now}
 use Rattle.shape.specs.Rows.{at}
-use Rattle.shape.specs.Index.{Strict}
+use Rattle.shape.specs.Halving.{left, Within, within-all, within-halved, left-four, found, missing, none}
 use Rattle.shape.proofs.index.search.Statement.{statement}
 use Rattle.shape.proofs.index.search.Tie as tie
 
--- columns before low are below col, and from high on none is
-record Between (c : ℕ → ℕ) (a b col low high : ℕ) : Type 0 where
-  pub first : a ≤ low
-  pub order : low ≤ high
-  pub last : high ≤ b
-  pub before : (k : ℕ) → a ≤ k → k < low → c k < col
-  pub behind : (k : ℕ) → high ≤ k → k < b → col ≤ c k
-
-module _ (c : ℕ → ℕ) (a b col : ℕ) (strict : Strict c a b) where
-  upper : (low high half : ℕ) → Between c a b col low high → low ≤ half → half < high → c half < col → Between c a b col (half + 1) high
-  upper low high half t l h g = record {
-    first = omega arith;
-    order = omega arith;
-    last = t .last;
-    before = λ k m f. ⊎-elim (λ u. omega (arith, climbing c a b strict k half m u (omega arith))) (λ u. let e : k ≡ half = omega arith in rw e g) (below-or k half);
-    behind = t .behind;
-  }
-
-  lower : (low high half : ℕ) → Between c a b col low high → low ≤ half → half < high → col ≤ c half → Between c a b col low half
-  lower low high half t l h g = record {
-    first = t .first;
-    order = l;
-    last = omega arith;
-    before = t .before;
-    behind = λ k m f. ⊎-elim (λ u. omega (arith, climbing c a b strict half k (omega arith) u f)) (λ u. let e : k ≡ half = omega arith in rw e g) (below-or half k);
-  }
-
-  found : (low high : ℕ) → Between c a b col low high → low < b → c low ≡ col → low ≡ find (λ k. eqb (c k) col) a b absent
-  found low high t l e = sym (find-first (λ k. eqb (c k) col) absent a b low (t .first) l (eq-eqb _ _ e) (λ j m f. ne-eqb (c j) col (λ q. omega (arith, t .before j m f))))
-
-  missing : (low high : ℕ) → Between c a b col low high → high ≤ low → (low < b → c low ≡ col → ⊥) → absent ≡ find (λ k. eqb (c k) col) a b absent
-  missing low high t h differ = sym (find-none (λ k. eqb (c k) col) absent a b (λ j m f. ne-eqb (c j) col (apart j m f)))
-    where
-      apart : (j : ℕ) → a ≤ j → j < b → c j ≡ col → ⊥
-      apart j m f q =
-          ⊎-elim (λ u. omega (arith, t .before j m u))
-          (λ u. ⊎-elim (λ v. omega (arith, climbing c a b strict low j (t .first) v f, t .behind low h (omega arith))) (λ v. let e : j ≡ low = omega arith in differ (omega arith) (rw e at q)) (below-or low j)) (below-or j low)
-
 abbrev Inv-loop : tie.InvT-loop
-Inv-loop cols a b col low₀ high₀ low high = Between (at cols) a b col low high
+Inv-loop cols a b col low₀ size₀ low size = Within (at cols) a b col low size
 
 abbrev μ-loop : tie.MeasureT-loop
-μ-loop cols a b col low₀ high₀ low high = high - low
+μ-loop cols a b col low₀ size₀ low size = size
+
+returns : tie.Need-returns Inv-loop μ-loop
+returns c = none _ _ _ _ (c .before .before .pre .strict) (c .if1 .taken)
+
+sub-size : tie.Need-sub-size Inv-loop μ-loop
+sub-size c = search needs
 
 loop-holds : tie.Need-loop-holds Inv-loop μ-loop
-loop-holds c = search needs
+loop-holds c = within-all _ _ _ _ (c .if1 .left)
 
-sub-half : tie.Need-sub-half Inv-loop μ-loop
-sub-half c = search needs
+one-requires : tie.Need-one-requires Inv-loop μ-loop
+one-requires c κs =
+    let q = c .before in
+    (q .loop .inv .some, omega (arith, q .loop .inv .last, q .before .before .before .pre .columns))
 
-add-half : tie.Need-add-half Inv-loop μ-loop
-add-half c = search needs
-
-mul-if1 : tie.Need-mul-if1 Inv-loop μ-loop
-mul-if1 c = search needs
-
-shared-slice-read-if1 : tie.Need-shared-slice-read-if1 Inv-loop μ-loop
-shared-slice-read-if1 c = search needs
-
-add-low : tie.Need-add-low Inv-loop μ-loop
-add-low c = search needs
+sub-size-2 : tie.Need-sub-size-2 Inv-loop μ-loop
+sub-size-2 c = search needs
 
 loop-less : tie.Need-loop-less Inv-loop μ-loop
 loop-less c = search needs
 
 loop-again : tie.Need-loop-again Inv-loop μ-loop
+unfolding left
 loop-again c =
-    let q = c .before .before .before in
-    upper _ _ _ _ (q .before .pre .strict) _ _ _ (q .loop .inv) (omega arith) (omega arith) (c .if1 .taken)
-
-loop-less-2 : tie.Need-loop-less-2 Inv-loop μ-loop
-loop-less-2 c = search needs
-
-loop-again-2 : tie.Need-loop-again-2 Inv-loop μ-loop
-loop-again-2 c =
-    let q = c .before .before .before in
-    lower _ _ _ _ (q .before .pre .strict) _ _ _ (q .loop .inv) (omega arith) (omega arith) (c .if1 .left)
-
-returns : tie.Need-returns Inv-loop μ-loop
-returns c =
     let q = c .before .before in
-    missing _ _ _ _ (q .before .pre .strict) _ _ (q .loop .inv) (c .before .loop-test .left) (λ l. absurd (omega arith))
+    rw (c .one .ensures) (within-halved _ _ _ _ (q .before .before .before .pre .strict) 1 _ _ (q .loop .inv))
 
-mul-if3 : tie.Need-mul-if3 Inv-loop μ-loop
-mul-if3 c = search needs
+near-requires : tie.Need-near-requires Inv-loop μ-loop
+near-requires c κs =
+    let q = c .before in
+    (q .loop .inv .some, c .loop-test .left, omega (arith, q .loop .inv .last, q .before .before .before .pre .columns))
 
-shared-slice-read-if3 : tie.Need-shared-slice-read-if3 Inv-loop μ-loop
-shared-slice-read-if3 c = search needs
+-- one slot is left
+settled : (c : tie.After-near Inv-loop μ-loop) → (let s = c .before .before .before .before .before in Within (at (now (s .args .cols))) (s .args .a) (s .args .b) (s .args .col) (c .near .result) 1)
+settled c =
+    let q = c .before .before in
+    rw (c .near .ensures) (rw (left-four _ (q .loop .inv .some) (c .before .loop-test .left)) at (within-halved _ _ _ _ (q .before .before .before .pre .strict) 4 _ _ (q .loop .inv)))
+
+mul-if2 : tie.Need-mul-if2 Inv-loop μ-loop
+mul-if2 c = omega (arith, settled c .last, c .before .before .before .before .before .pre .few)
+
+shared-slice-read-if2 : tie.Need-shared-slice-read-if2 Inv-loop μ-loop
+shared-slice-read-if2 c = omega (arith, settled (c .before) .last, c .before .before .before .before .before .before .pre .columns)
 
 returns-2 : tie.Need-returns-2 Inv-loop μ-loop
 returns-2 c =
-    let q = c .before .before .before .before in
-    missing _ _ _ _ (q .before .pre .strict) _ _ (q .loop .inv) (c .before .before .before .loop-test .left) (λ l. c .if3 .taken)
+    let n = c .before .before in
+    missing _ _ _ _ (n .before .before .before .before .before .pre .strict) _ (settled n) (c .if2 .taken)
 
 cast-result : tie.Need-cast-result Inv-loop μ-loop
-cast-result c = search needs
+cast-result c = let n = c .before .before in omega (arith, settled n .last, n .before .before .before .before .before .pre .few)
 
 returns-3 : tie.Need-returns-3 Inv-loop μ-loop
 returns-3 c =
-    let q = c .before .before .before .before in
-    found _ _ _ _ (q .before .pre .strict) _ _ (q .loop .inv) (omega arith) (c .if3 .left)
+    let n = c .before .before in
+    found _ _ _ _ (n .before .before .before .before .before .pre .strict) _ (settled n) (c .if2 .left)
 
 pub search-spec : {M : Type 1} → statement M
 search-spec =
@@ -123,19 +76,16 @@ search-spec =
     (tie.spec
     Inv-loop
     μ-loop
+    returns
+    sub-size
     loop-holds
-    sub-half
-    add-half
-    mul-if1
-    shared-slice-read-if1
-    add-low
+    one-requires
+    sub-size-2
     loop-less
     loop-again
-    loop-less-2
-    loop-again-2
-    returns
-    mul-if3
-    shared-slice-read-if3
+    near-requires
+    mul-if2
+    shared-slice-read-if2
     returns-2
     cast-result
     returns-3)
