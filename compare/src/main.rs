@@ -44,7 +44,7 @@ const TIMED: usize = 100_000;
 
 /// `compare` is the gate's run. `compare rounds SEED COUNT` repeats all but the root and the times,
 /// `compare rules SEED COUNT` the rules alone, `compare roots` takes the root of every bit pattern, and
-/// `compare times` prints the times alone.
+/// `compare times SEED` prints the times alone.
 fn main() -> ExitCode {
     // The compiler is to know nothing of either side when it makes the calls.
     let sides = &Sides {
@@ -56,10 +56,10 @@ fn main() -> ExitCode {
     let differences = match words[..] {
         [] => gate(sides, &mut Draw::new(SEED)),
         ["roots"] => every_root(sides),
-        ["times"] => times(&mut Draw::new(SEED)),
+        ["times", seed] => times(&mut Draw::new(number(seed))),
         ["rounds", seed, count] => rounds(seed, count, |draw| round(sides, draw)),
         ["rules", seed, count] => rounds(seed, count, rules::compare),
-        _ => panic!("compare, compare roots, compare times, or compare rounds|rules SEED COUNT"),
+        _ => panic!("compare [roots | times SEED | rounds SEED COUNT | rules SEED COUNT]"),
     };
     if differences == 0 {
         ExitCode::SUCCESS
