@@ -1,6 +1,6 @@
 /*
- * The bracket solvers: the C functions of the proved crates `boundary` and `boundary_step`.
- * Link with libboundary.a and libboundary_step.a (README.md, "How to call it").
+ * The bracket solvers: the C functions of the proved crates `abi_calls` and `abi_step_calls`.
+ * Link with libbracket.a, which bindings/archive makes (README.md, "How to call it").
  *
  * WHAT A CALLER OWES. The proofs begin behind these points; all else is tested by the calls themselves.
  *  - A list is a pointer and the number of its items, named ..._len. The pointer is valid for that many items (to read,

@@ -1,5 +1,6 @@
 #!/usr/bin/env python3
-"""The plane numbers, the block matrix, the plan, the direct solve, the conjugate gradient and the step of document 01 a second time. `answer`: case lines in, answer lines out. `cases SEED`: damaged input."""
+"""The plane numbers, the block matrix, the plan, the direct solve, the conjugate gradient and the step of document 01 a second
+time. `answer`: case lines in, answer lines out. `cases SEED`: damaged input."""
 
 import sys
 

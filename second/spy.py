@@ -1,5 +1,6 @@
 #!/usr/bin/env python3
-"""The picture program a second time. `answer`: a text in, its picture or refusal out. `hold COMMAND..`: runs the command on each text and holds what it writes to the answer."""
+"""The picture program a second time. `answer`: a text in, its picture or refusal out. `hold COMMAND..`: runs the command on each
+text and holds what it writes to the answer."""
 
 import subprocess
 import sys
@@ -12,7 +13,8 @@ import plan
 
 # Of the bench program's texts: the readings, graphs of several kinds, every number that a refusal has, and grounds for a 9.
 NAMES = """none one three apart moved repeats ghost equal_at_n leading_zeros separators ring two_rings star tree grid_32_10 random_sparse random_dense
-complete_90 chain_1024 particles_1024 particles_1025 pairs_4097 outside complete_91 no_byte one_missing one_over comma high_byte bytes_65537 nine_before_one one_before_four""".split()
+complete_90 chain_1024 particles_1024 particles_1025 pairs_4097 outside complete_91 no_byte one_missing one_over comma high_byte
+bytes_65537 nine_before_one one_before_four""".split()
 
 
 def black(row):

@@ -1,4 +1,5 @@
-//! Names the proved archives to the linker. BRACKET_ARCHIVES is the folder that holds them; unset, it's where `rt staticlib` writes.
+//! Names the proved archive, libbracket.a, to the linker. BRACKET_ARCHIVES is the folder that holds it, as bindings/archive prints;
+//! unset, it's where that writes on x86-64.
 
 fn main() {
     println!("cargo::rerun-if-env-changed=BRACKET_ARCHIVES");
@@ -6,8 +7,6 @@ fn main() {
         concat!(env!("CARGO_MANIFEST_DIR"), "/../../target/staticlib").to_string()
     });
     println!("cargo::rustc-link-search=native={folder}");
-    for archive in ["boundary", "boundary_step"] {
-        println!("cargo::rustc-link-lib=static={archive}");
-        println!("cargo::rerun-if-changed={folder}/lib{archive}.a");
-    }
+    println!("cargo::rustc-link-lib=static=bracket");
+    println!("cargo::rerun-if-changed={folder}/libbracket.a");
 }

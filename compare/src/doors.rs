@@ -1,52 +1,10 @@
-//! The proved doors: the C functions of the crate `boundary`. A list is a pointer and a length.
+//! The proved doors: the C functions of the crate `abi_calls`. A list is a pointer and a length.
 
+use crate::lend::UNTOUCHED;
+use crate::sys::c::*;
 use crate::{endings, step};
 use oracle::call::Operation::*;
 use oracle::call::{Call, Left};
-
-declared! {
-    fn bracket_from_pairs(
-        n: usize, count: usize, pairs: &[u32], row_offsets: &mut [u32], cols: &mut [u32], diagonal: &mut [u32],
-        blocks: &mut [f32], work: &mut [u32]
-    ) -> u8;
-    fn bracket_pattern_from_pairs(
-        n: usize, count: usize, pairs: &[u32], row_offsets: &mut [u32], cols: &mut [u32], diagonal: &mut [u32],
-        work: &mut [u32]
-    ) -> u8;
-    fn bracket_block_index(
-        n: usize, row_offsets: &[u32], cols: &[u32], diagonal: &[u32], row: usize, col: u32, slot: &mut u32
-    ) -> u8;
-    fn bracket_diagonal_index(
-        n: usize, row_offsets: &[u32], cols: &[u32], diagonal: &[u32], row: usize, slot: &mut u32
-    ) -> u8;
-    fn bracket_clear_values(n: usize, row_offsets: &[u32], cols: &[u32], diagonal: &[u32], blocks: &mut [f32]) -> u8;
-    fn bracket_mul(
-        n: usize, row_offsets: &[u32], cols: &[u32], diagonal: &[u32], blocks: &[f32], x: &[f32], out: &mut [f32]
-    ) -> u8;
-    fn bracket_make_dirichlet(
-        n: usize, row_offsets: &[u32], cols: &[u32], diagonal: &[u32], row: usize, blocks: &mut [f32]
-    ) -> u8;
-    fn bracket_plan(
-        n: usize, row_offsets: &[u32], cols: &[u32], diagonal: &[u32], perm: &mut [u32], inv_perm: &mut [u32],
-        first: &mut [u32], row_start: &mut [u32], degrees: &mut [u32], placed: &mut [u32], mark: &mut [u32],
-        level: &mut [u32], queue: &mut [u32]
-    ) -> u8;
-    fn bracket_factorize(
-        n: usize, row_offsets: &[u32], cols: &[u32], diagonal: &[u32], blocks: &[f32], perm: &[u32],
-        inv_perm: &[u32], first: &[u32], row_start: &[u32], values: &mut [f32], how: &mut u32, row: &mut usize,
-        pivot: &mut f32
-    ) -> u8;
-    fn bracket_solve(
-        n: usize, perm: &[u32], inv_perm: &[u32], first: &[u32], row_start: &[u32], values: &[f32], b: &[f32],
-        x: &mut [f32], scratch: &mut [f32]
-    ) -> u8;
-    fn bracket_update_preconditioner(
-        n: usize, row_offsets: &[u32], cols: &[u32], diagonal: &[u32], blocks: &[f32], preconditioner: &mut [f32]
-    ) -> u8;
-}
-
-/// What a refused call must leave in its places.
-const UNTOUCHED: u32 = 0x5a5a_5a5a;
 
 /// What a call says besides its number and its lists: the slot that it found, or how a factorization
 /// came out, and where.

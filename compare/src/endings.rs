@@ -1,15 +1,8 @@
 //! The proved solve by conjugate gradients: a C function that tells how it ended in four lent places.
 
+use crate::lend::UNTOUCHED;
+use crate::sys::c::bracket_conjugate_gradient;
 use oracle::call::{Call, Left};
-
-declared! {
-    fn bracket_conjugate_gradient(
-        n: usize, row_offsets: &[u32], cols: &[u32], diagonal: &[u32], blocks: &[f32], preconditioner: &[f32],
-        b: &[f32], tolerance: f32, max_iterations: usize, x: &mut [f32], residual: &mut [f32],
-        direction: &mut [f32], a_direction: &mut [f32], z: &mut [f32], how: &mut u32, count: &mut usize,
-        norm: *mut f32, denominator: *mut f32
-    ) -> u8;
-}
 
 /// The places: the outcome's number, its count, and the bits of its floats.
 #[derive(Clone, Copy, PartialEq, Eq)]
@@ -20,32 +13,41 @@ pub struct Places {
     pub denominator: u32,
 }
 
-/// What a refused call must leave in them.
-pub const UNTOUCHED: Places = Places {
-    how: 0x5a5a_5a5a,
-    count: 0x5a5a_5a5a,
-    norm: 0x5a5a_5a5a,
-    denominator: 0x5a5a_5a5a,
+/// As they are lent.
+const LENT: Places = Places {
+    how: UNTOUCHED,
+    count: UNTOUCHED as usize,
+    norm: UNTOUCHED,
+    denominator: UNTOUCHED,
 };
 
 /// Makes the call on its own lists, and hands back the refusal's number and the places.
 pub fn made(call: &mut Call) -> (u8, Places) {
-    let mut to = UNTOUCHED;
-    match (&call.numbers[..], &mut call.lists[..]) {
+    let Places {
+        mut how, mut count, ..
+    } = LENT;
+    let [mut norm, mut denominator] = [LENT.norm, LENT.denominator].map(f32::from_bits);
+    let refused = match (&call.numbers[..], &mut call.lists[..]) {
         (
             &[n, limit, tolerance],
             [r, c, d, blocks, p, b, x, residual, direction, a_direction, z],
         ) => {
             let tolerance = f32::from_bits(tolerance as u32);
-            let (norm, denominator): (*mut u32, *mut u32) = (&mut to.norm, &mut to.denominator);
-            let refused = unsafe {
+            unsafe {
                 lend!(bracket_conjugate_gradient(n; r, c, d, blocks, p, b; tolerance, limit; x, residual, direction, a_direction, z;
-                    &mut to.how, &mut to.count, norm.cast(), denominator.cast();))
-            };
-            (refused, to)
+                    &mut how, &mut count, &mut norm, &mut denominator;))
+            }
         }
         _ => unreachable!("a solve has three numbers and eleven lists"),
-    }
+    };
+    let [norm, denominator] = [norm, denominator].map(f32::to_bits);
+    let to = Places {
+        how,
+        count,
+        norm,
+        denominator,
+    };
+    (refused, to)
 }
 
 /// The refusal's number, and the two lists that tell the outcome.
@@ -70,7 +72,7 @@ pub fn told(refused: u8, to: Places) -> [Vec<u32>; 2] {
     let ended = vec![to.how, to.count as u32];
     match refused {
         0 if floats[carried..].iter().all(|&it| it == 0) => [ended, floats[..carried].to_vec()],
-        _ if refused > 0 && to == UNTOUCHED => [Vec::new(), Vec::new()],
+        _ if refused > 0 && to == LENT => [Vec::new(), Vec::new()],
         _ => [ended, floats.to_vec()],
     }
 }

@@ -65,14 +65,32 @@ impl Ends {
 
     pub fn report(&self) {
         let [zero, near, converged, curvature, limit] = self.outcomes;
-        println!("  Zero: {zero}, Near: {near}, Converged: {converged}, Curvature: {curvature}, Limit: {limit}; up to {} particles and {} turns", self.most.0, self.most.1);
+        println!(
+            "  Zero: {zero}, Near: {near}, Converged: {converged}, Curvature: {curvature}, Limit: {limit}; \
+             up to {} particles and {} turns",
+            self.most.0,
+            self.most.1,
+        );
         let [at_once, soon, later] = self.broken;
         let [below, plus, minus, nan] = self.denominators;
-        println!("  breakdowns at once: {at_once}, after 1 or 2 turns: {soon}, after more: {later}; denominators below zero: {below}, +0.0: {plus}, -0.0: {minus}, NaN: {nan}");
+        println!(
+            "  breakdowns at once: {at_once}, after 1 or 2 turns: {soon}, after more: {later}; denominators below zero: {below}, \
+             +0.0: {plus}, -0.0: {minus}, NaN: {nan}"
+        );
         let [zeroed, by_nan, nan, low, high, minus, plus, one, between] = self.rescaled;
-        println!("  rescaled to zeros by a denominator at or below zero: {zeroed}, by a NaN one: {by_nan}, by another NaN: {nan}, clamped at 0: {low}, clamped at 1: {high}, by -0.0: {minus}, by +0.0: {plus}, by exactly 1: {one}, between: {between}");
+        println!(
+            "  rescaled to zeros by a denominator at or below zero: {zeroed}, by a NaN one: {by_nan}, by another NaN: {nan}, \
+             clamped at 0: {low}, clamped at 1: {high}, by -0.0: {minus}, by +0.0: {plus}, by exactly 1: {one}, between: {between}"
+        );
         let [zero, minus, small, large] = self.tolerances;
         let [zeros, finite, infinite, nan] = self.started;
-        println!("  tolerances 0: {zero}, -0.0: {minus}, below 1: {small}, 1 or above: {large}; |b|^2 infinite: {}, 0 of a b that isn't: {}; b with -0.0: {}; x at the start zeros: {zeros}, finite: {finite}, infinite: {infinite}, NaN: {nan}", self.infinite, self.vanished, self.minus_zero);
+        println!(
+            "  tolerances 0: {zero}, -0.0: {minus}, below 1: {small}, 1 or above: {large}; |b|^2 infinite: {}, \
+             0 of a b that isn't: {}; b with -0.0: {}; x at the start zeros: {zeros}, finite: {finite}, infinite: {infinite}, \
+             NaN: {nan}",
+            self.infinite,
+            self.vanished,
+            self.minus_zero,
+        );
     }
 }

@@ -1,4 +1,4 @@
-//! The work behind the doors: the C functions of the crate `inside`, for timing alone. They test
+//! The work behind the doors: the C functions of the crate `abi_timing`, for timing alone. They test
 //! nothing, so only accepted input may be handed to them, in lists of just the needed length.
 
 use oracle::call::Call;

@@ -2,6 +2,9 @@
 
 #[macro_use]
 mod lend;
+#[macro_use]
+#[path = "../../bindings/rust/src/sys.rs"]
+mod sys;
 
 mod buffers;
 mod calls;

@@ -122,21 +122,41 @@ impl Met {
 
     pub fn report(&self, operation: Operation) {
         let [above, equal, one_less, less] = self.routes;
-        println!("  max_dense_dofs above 2n: {above}, exactly 2n: {equal}, one less: {one_less}, less still: {less}; refused by 7: {}; up to {} particles", self.refused, self.most);
+        println!(
+            "  max_dense_dofs above 2n: {above}, exactly 2n: {equal}, one less: {one_less}, less still: {less}; refused by 7: {}; \
+             up to {} particles",
+            self.refused,
+            self.most,
+        );
         if operation == Operation::FactorizeStepMatrix {
             println!("  factors that failed: {}", self.failed);
             return;
         }
         let [direct, zero, near, converged, curvature, limit, nothing] = self.ends;
-        println!("  Direct: {direct}, Zero: {zero}, Near: {near}, Converged: {converged}, Curvature: {curvature}, Limit: {limit}, nothing asked for: {nothing}; of them with a tally at its cap: {}", self.full);
+        println!(
+            "  Direct: {direct}, Zero: {zero}, Near: {near}, Converged: {converged}, Curvature: {curvature}, Limit: {limit}, \
+             nothing asked for: {nothing}; of them with a tally at its cap: {}",
+            self.full,
+        );
         let [whole, failed, other, unset_whole, unset_failed, unset_other] = self.marks;
-        println!("  where the plan counts, mark set over the matrix's whole factor: {whole}, over its failed one: {failed}, over another: {other}; not set over its whole factor: {unset_whole}, over its failed one: {unset_failed}, over another: {unset_other}");
+        println!(
+            "  where the plan counts, mark set over the matrix's whole factor: {whole}, over its failed one: {failed}, \
+             over another: {other}; not set over its whole factor: {unset_whole}, over its failed one: {unset_failed}, \
+             over another: {unset_other}"
+        );
         let [own, other] = self.preconditioners;
         println!("  iterated with the matrix's preconditioner: {own}, with another: {other}");
         if operation == Operation::ResponseInto {
             let [none, some, all] = self.pinned;
             let [above, infinite, zero, below, nan] = self.gains;
-            println!("  pinned none: {none}, some: {some}, all: {all}; with repeated particles: {}, 16 entries: {}, gradients with -0.0: {}, with NaN: {}", self.repeated, self.sixteen, self.minus_zero, self.nan);
+            println!(
+                "  pinned none: {none}, some: {some}, all: {all}; with repeated particles: {}, 16 entries: {}, \
+                 gradients with -0.0: {}, with NaN: {}",
+                self.repeated,
+                self.sixteen,
+                self.minus_zero,
+                self.nan,
+            );
             println!("  gains above zero: {above}, infinite: {infinite}, zero: {zero}, zeroed from below: {below}, zeroed from NaN: {nan}");
         }
     }

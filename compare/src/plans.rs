@@ -96,7 +96,10 @@ impl Met {
             ..
         } = self;
         let (fewest, most) = self.sizes.unwrap_or_default();
-        println!("  {fewest} to {most} particles; in several parts: {parts}; one degree everywhere: {regular}; a hub of all others: {hubs}; envelopes of {ENVELOPE} entries and the next {PAST} numbers: {entries:?}; refused by 7: {too_many}");
+        println!(
+            "  {fewest} to {most} particles; in several parts: {parts}; one degree everywhere: {regular}; a hub of all others: {hubs}; \
+             envelopes of {ENVELOPE} entries and the next {PAST} numbers: {entries:?}; refused by 7: {too_many}"
+        );
     }
 }
 

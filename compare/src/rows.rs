@@ -2,15 +2,10 @@
 //! reading of the row's bounds.
 
 use crate::judge::Judged;
+use crate::sys::c::*;
 use oracle::blocks::Blocks;
 use oracle::draw::Draw;
 use oracle::graphs;
-
-declared! {
-    fn bracket_row_first(row_offsets: &[u32], cols: &[u32], row: usize) -> usize;
-    fn bracket_row_len(row_offsets: &[u32], cols: &[u32], row: usize) -> usize;
-    fn bracket_row_col(row_offsets: &[u32], cols: &[u32], row: usize, j: usize) -> u32;
-}
 
 /// How many graphs of at most so many particles are built; each of their rows is a case, and the one past them.
 const SIZES: [(usize, usize); 3] = [(1000, 10), (100, 100), (10, 1024)];

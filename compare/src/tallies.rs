@@ -132,6 +132,9 @@ pub fn compare(draw: &mut Draw) -> usize {
     let differences = judged.close(&format!(
         " from a count kept beside it: after each call of a sequence of {LONG} from a fresh record, and of {OTHERS} of {SHORT} from others"
     ));
-    println!("  the first asked for Direct: {direct}, Zero: {zero}, Near: {near}, Converged: {converged}, Curvature: {curvature}, Limit: {limit}, refused: {refused}, nothing: {nothing}; of the others {full} began at the cap or above, {reached} reached it");
+    println!(
+        "  the first asked for Direct: {direct}, Zero: {zero}, Near: {near}, Converged: {converged}, Curvature: {curvature}, \
+         Limit: {limit}, refused: {refused}, nothing: {nothing}; of the others {full} began at the cap or above, {reached} reached it"
+    );
     differences
 }

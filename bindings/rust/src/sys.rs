@@ -1,28 +1,49 @@
-//! The C functions (include/bracket.h), and all of the unsafe code. A slice is a pointer and a length in C. Rust's own rules give
-//! what the functions ask of their caller: valid pointers, no list shared with one that is written, a bool of 0 or 1.
+//! The C functions (include/bracket.h), and all of the unsafe code. Rust's own rules give what the functions ask of their caller:
+//! valid pointers, no list shared with one that is written, a bool of 0 or 1. compare/ takes the C functions from here too.
 
-/// Makes of each signature a safe function of the same name. Parameters are read one by one into what the safe function takes,
-/// what the C function takes, and what is handed over.
+/// Declares C functions by the crates' own signatures: a slice is a pointer and a length in C. Parameters are read one by one.
+macro_rules! declared {
+    ($(fn $name:ident($($params:tt)*) $(-> $answer:ty)?;)*) => {
+        $(declared!(@ $name [$($answer)?] [] $($params)*,);)*
+    };
+    (@ $name:ident [$($answer:ty)?] [$($c:tt)*] $p:ident: &[$t:ty], $($rest:tt)*) => {
+        declared!(@ $name [$($answer)?] [$($c)* $p: *const $t, _: usize,] $($rest)*);
+    };
+    (@ $name:ident [$($answer:ty)?] [$($c:tt)*] $p:ident: &mut [$t:ty], $($rest:tt)*) => {
+        declared!(@ $name [$($answer)?] [$($c)* $p: *mut $t, _: usize,] $($rest)*);
+    };
+    (@ $name:ident [$($answer:ty)?] [$($c:tt)*] $p:ident: $t:ty, $($rest:tt)*) => {
+        declared!(@ $name [$($answer)?] [$($c)* $p: $t,] $($rest)*);
+    };
+    (@ $name:ident [$($answer:ty)?] [$($c:tt)*]) => {
+        extern "C" {
+            pub fn $name($($c)*) $(-> $answer)?;
+        }
+    };
+}
+
+/// Makes of each signature the C function, in `c`, and a safe function of the same name, which hands over what it takes.
 macro_rules! calls {
     ($(fn $name:ident($($params:tt)*) -> $answer:ty;)*) => {
-        $(calls!(@ $name $answer [] [] [] $($params)*,);)*
+        pub mod c {
+            declared! { $(fn $name($($params)*) -> $answer;)* }
+        }
+        $(calls!(@ $name $answer [$($params)*] [] $($params)*,);)*
     };
-    (@ $name:ident $answer:ty [$($safe:tt)*] [$($c:tt)*] [$($handed:tt)*] $p:ident: &[$t:ty], $($rest:tt)*) => {
-        calls!(@ $name $answer [$($safe)* $p: &[$t],] [$($c)* _: *const $t, _: usize,] [$($handed)* $p.as_ptr(), $p.len(),] $($rest)*);
+    (@ $name:ident $answer:ty [$($taken:tt)*] [$($handed:tt)*] $p:ident: &[$t:ty], $($rest:tt)*) => {
+        calls!(@ $name $answer [$($taken)*] [$($handed)* $p.as_ptr(), $p.len(),] $($rest)*);
     };
-    (@ $name:ident $answer:ty [$($safe:tt)*] [$($c:tt)*] [$($handed:tt)*] $p:ident: &mut [$t:ty], $($rest:tt)*) => {
-        calls!(@ $name $answer [$($safe)* $p: &mut [$t],] [$($c)* _: *mut $t, _: usize,] [$($handed)* $p.as_mut_ptr(), $p.len(),] $($rest)*);
+    (@ $name:ident $answer:ty [$($taken:tt)*] [$($handed:tt)*] $p:ident: &mut [$t:ty], $($rest:tt)*) => {
+        calls!(@ $name $answer [$($taken)*] [$($handed)* $p.as_mut_ptr(), $p.len(),] $($rest)*);
     };
-    (@ $name:ident $answer:ty [$($safe:tt)*] [$($c:tt)*] [$($handed:tt)*] $p:ident: $t:ty, $($rest:tt)*) => {
-        calls!(@ $name $answer [$($safe)* $p: $t,] [$($c)* _: $t,] [$($handed)* $p,] $($rest)*);
+    (@ $name:ident $answer:ty [$($taken:tt)*] [$($handed:tt)*] $p:ident: $t:ty, $($rest:tt)*) => {
+        calls!(@ $name $answer [$($taken)*] [$($handed)* $p,] $($rest)*);
     };
-    (@ $name:ident $answer:ty [$($safe:tt)*] [$($c:tt)*] [$($handed:tt)*]) => {
-        #[allow(clippy::too_many_arguments)]
-        pub fn $name($($safe)*) -> $answer {
-            extern "C" {
-                fn $name($($c)*) -> $answer;
-            }
-            unsafe { $name($($handed)*) }
+    (@ $name:ident $answer:ty [$($taken:tt)*] [$($handed:tt)*]) => {
+        // The wrapper has no pattern without values; compare/ calls no safe function.
+        #[allow(clippy::too_many_arguments, dead_code)]
+        pub fn $name($($taken)*) -> $answer {
+            unsafe { c::$name($($handed)*) }
         }
     };
 }
@@ -37,6 +58,10 @@ calls! {
     fn bracket_from_pairs(
         n: usize, count: usize, pairs: &[u32],
         row_offsets: &mut [u32], cols: &mut [u32], diagonal: &mut [u32], blocks: &mut [f32], work: &mut [u32]
+    ) -> u8;
+    fn bracket_pattern_from_pairs(
+        n: usize, count: usize, pairs: &[u32],
+        row_offsets: &mut [u32], cols: &mut [u32], diagonal: &mut [u32], work: &mut [u32]
     ) -> u8;
     fn bracket_block_index(
         n: usize, row_offsets: &[u32], cols: &[u32], diagonal: &[u32], row: usize, col: u32, slot: &mut u32

@@ -1,14 +1,4 @@
-// The bench program: standard input to standard output, by desk::answer. One byte more than a text may have is room enough to notice that there are more.
-use desk::Answered;
-
+// The bench program: standard input to standard output.
 fn main() {
-    let mut text = [0u8; law::BYTES + 1];
-    let n = io::read_full(libc::STDIN_FILENO, &mut text);
-    let mut out = [0u8; desk::ROOM];
-    match desk::answer(&text[..n], &mut out) {
-        Answered::Refused(_) => {}
-        Answered::Done(k) => {
-            io::write_all(libc::STDOUT_FILENO, &out[..k]);
-        }
-    }
+    bench_serve::inner::serve(libc::STDIN_FILENO);
 }

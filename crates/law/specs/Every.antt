@@ -54,7 +54,8 @@ module _ (p : ℕ → Bool) (a : ℕ) where
   unfolding fold
   one-of zero j h t = absurd (omega arith)
   one-of (suc n) j h t =
-      ⊎-elim (λ l. rw (one-of n j l t)) (λ r. let e : j ≡ n = omega arith in or-right (fold (λ k ok. ok || p k) a n false) (p (a + n)) (rw e at t)) (below-or j n)
+      ⊎-elim (λ l. rw (one-of n j l t)) (λ r. let e : j ≡ n = omega arith in or-right (fold (λ k ok. ok || p k) a n false) (p (a + n)) (rw e at t))
+      (below-or j n)
 
   -- the test of every number passes exactly if each number's does
   pub every-at : (b : ℕ) → every p a b ≡ true → (k : ℕ) → a ≤ k → k < b → p k ≡ true

@@ -46,7 +46,8 @@ module _ (p : ℕ → Bool) (d : ℕ) where
   seek-in zero a k l m t = absurd (omega arith)
   seek-in (suc n) a k l m t = here (p a) refl (λ h. seek-in n (suc a) k h (omega arith) t)
     where
-      here : (x : Bool) → p a ≡ x → (suc a ≤ k → (suc a ≤ seek p (suc a) n d) × (seek p (suc a) n d < suc a + n)) → (a ≤ seek p a (suc n) d) × (seek p a (suc n) d < a + suc n)
+      here : (x : Bool) → p a ≡ x → (suc a ≤ k → (suc a ≤ seek p (suc a) n d) × (seek p (suc a) n d < suc a + n)) → (a ≤ seek p a (suc n) d)
+          × (seek p a (suc n) d < a + suc n)
       here true e later = rw e (omega arith)
       here false e later =
           let h : suc a ≤ k = ⊎-elim (λ g. g) (λ g. absurd (let q : a ≡ k = omega arith in let z : _≡_ {A = ℕ} 0 1 = cc in omega arith)) (below-or a k) in

@@ -27,7 +27,8 @@ module _ {A : Type 0} (g : ℕ → List A) where
   gather-split a b c h l =
       from (λ c. gather g a c ≡ gather g a b ++ gather g b c) b
       (sym (ap (λ (t : List A). gather g a b ++ t) (sym (gather-none b)) ∙ append-nil (gather g a b)))
-      (λ k q e. sym (gather-more a k (omega arith)) ∙ ap (λ (t : List A). t ++ g k) e ∙ append-assoc (gather g a b) (gather g b k) (g k) ∙ ap (λ (t : List A). gather g a b ++ t) (gather-more b k q))
+      (λ k q e. sym (gather-more a k (omega arith)) ∙ ap (λ (t : List A). t ++ g k) e ∙ append-assoc (gather g a b) (gather g b k) (g k)
+      ∙ ap (λ (t : List A). gather g a b ++ t) (gather-more b k q))
       c l
 
   -- how long the first r are together
@@ -73,14 +74,16 @@ pub gather-same : {A : Type 0} (f g : ℕ → List A) (a b : ℕ) → a ≤ b �
 gather-same {A} f g a b h =
     from (λ b. ((k : ℕ) → a ≤ k → k < b → f k ≡ g k) → gather f a b ≡ gather g a b) a
     (λ _. sym (gather-none f a) ∙ gather-none g a)
-    (λ k q ih e. sym (gather-more f a k q) ∙ ap (λ (t : List A). t ++ f k) (ih (λ i l u. e i l (omega arith))) ∙ ap (λ (t : List A). gather g a k ++ t) (e k q (omega arith)) ∙ gather-more g a k q)
+    (λ k q ih e. sym (gather-more f a k q) ∙ ap (λ (t : List A). t ++ f k) (ih (λ i l u. e i l (omega arith)))
+    ∙ ap (λ (t : List A). gather g a k ++ t) (e k q (omega arith)) ∙ gather-more g a k q)
     b h
 
 -- ---- how long parts are together, by how long each is
 
 -- where every part but x is empty, and x is one long at most
 pub single : {A : Type 0} (g : ℕ → List A) (x : ℕ) → ((r : ℕ) → (r ≡ x → ⊥) → length (g r) ≡ 0) → length (g x) ≤ 1 → (r : ℕ) → upTo g r ≤ 1
-single g x none one r = from (λ r. (upTo g r ≤ 1) × (r ≤ x → upTo g r ≡ 0)) 0 (let z = upTo-none g in (omega arith, λ _. omega arith)) (λ k q h. step k h) r (omega arith) .0
+single g x none one r = from (λ r. (upTo g r ≤ 1) × (r ≤ x → upTo g r ≡ 0)) 0 (let z = upTo-none g in (omega arith, λ _. omega arith))
+    (λ k q h. step k h) r (omega arith) .0
   where
     step : (k : ℕ) → (upTo g k ≤ 1) × (k ≤ x → upTo g k ≡ 0) → (upTo g (k + 1) ≤ 1) × (k + 1 ≤ x → upTo g (k + 1) ≡ 0)
     step k h =
@@ -92,9 +95,11 @@ single g x none one r = from (λ r. (upTo g r ≤ 1) × (r ≤ x → upTo g r �
         (below-or k x)
 
 -- where each part of f is no longer than g's and h's together
-pub upTo-sum : {A B C : Type 0} (f : ℕ → List A) (g : ℕ → List B) (h : ℕ → List C) → ((r : ℕ) → length (f r) ≤ length (g r) + length (h r)) → (r : ℕ) → upTo f r ≤ upTo g r + upTo h r
+pub upTo-sum : {A B C : Type 0} (f : ℕ → List A) (g : ℕ → List B) (h : ℕ → List C) → ((r : ℕ) → length (f r) ≤ length (g r) + length (h r)) → (r : ℕ)
+    → upTo f r ≤ upTo g r + upTo h r
 upTo-sum f g h e r =
-    from (λ r. upTo f r ≤ upTo g r + upTo h r) 0 (omega (arith, upTo-none f)) (λ k q i. omega (arith, e k, upTo-more f k, upTo-more g k, upTo-more h k)) r (omega arith)
+    from (λ r. upTo f r ≤ upTo g r + upTo h r) 0 (omega (arith, upTo-none f))
+    (λ k q i. omega (arith, e k, upTo-more f k, upTo-more g k, upTo-more h k)) r (omega arith)
 
 -- ---- one number to a part: f 0, f 1, up to and without f n
 

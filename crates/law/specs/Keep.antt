@@ -53,7 +53,8 @@ module _ (p : ℕ → Bool) where
       let g : ℕ → List ℕ = λ c. onlyIf (p c) c in
       let s = keep-at n k (omega arith) in
       let t = keep-at n (k + 1) h in
-      let less : s .0 < t .0 = ⊎-elim (λ l. l) (λ l. absurd (omega (arith, upTo-rise g (t .0) (s .0) l, s .1 .1 .1 .0, t .1 .1 .1 .0))) (below-or (s .0) (t .0)) in
+      let less : s .0 < t .0 = ⊎-elim (λ l. l) (λ l. absurd (omega (arith, upTo-rise g (t .0) (s .0) l, s .1 .1 .1 .0, t .1 .1 .1 .0)))
+      (below-or (s .0) (t .0)) in
       rw (s .1 .1 .1 .1, t .1 .1 .1 .1) less
 
   -- a range one longer

@@ -12,6 +12,7 @@ pub mod Mix
 pub mod Put
 pub mod Bytes
 pub mod Decimal
+pub mod Number
 pub mod Refusal
 pub mod Room
 pub mod Promise

@@ -71,7 +71,8 @@ unfolding over
 over-both Q f g a b s r step h = fold-both Q f g a (b - a) s r (λ c x y l. step (a + c) x y (omega arith) (omega arith)) h
 
 -- what each turn of a..b keeps, the whole loop keeps
-pub over-keeps : {S : Type 0} (P : S → Type 0) (f : ℕ → S → S) (a b : ℕ) (s : S) → ((k : ℕ) (t : S) → a ≤ k → k < b → P t → P (f k t)) → P s → P (over f a b s)
+pub over-keeps : {S : Type 0} (P : S → Type 0) (f : ℕ → S → S) (a b : ℕ) (s : S) → ((k : ℕ) (t : S) → a ≤ k → k < b → P t → P (f k t)) → P s
+    → P (over f a b s)
 over-keeps P f a b s step h = over-both (λ x _. P x) f f a b s s (λ k x _ l m q. step k x l m q) h
 
 -- two loops with the same turns
@@ -117,13 +118,15 @@ rising f n rise a b h g =
 -- what rises strictly from each number of a..b to the next is strictly in order there
 pub climbing : (f : ℕ → ℕ) (a b : ℕ) → ((k : ℕ) → a < k → k < b → f (k - 1) < f k) → (j k : ℕ) → a ≤ j → j < k → k < b → f j < f k
 climbing f a b climb j k h l g =
-    from (λ k. k < b → f j < f k) (j + 1) (λ m. step j h m) (λ i q ih m. let u = ih (omega arith) in let v = step i (omega arith) m in omega arith) k (omega arith) g
+    from (λ k. k < b → f j < f k) (j + 1) (λ m. step j h m) (λ i q ih m. let u = ih (omega arith) in let v = step i (omega arith) m in omega arith) k
+    (omega arith) g
   where
     step : (i : ℕ) → a ≤ i → i + 1 < b → f i < f (i + 1)
     step i q m = let e : (i + 1) - 1 ≡ i = omega arith in rw e at (climb (i + 1) (omega arith) m)
 
 -- what holds before the first turn, and passes from each turn's number to the next, holds at the end
-pub over-holds : {S : Type 0} (P : ℕ → S → Type 0) (f : ℕ → S → S) (a b : ℕ) (s : S) → a ≤ b → P a s → ((k : ℕ) (t : S) → a ≤ k → k < b → P k t → P (k + 1) (f k t)) → P b (over f a b s)
+pub over-holds : {S : Type 0} (P : ℕ → S → Type 0) (f : ℕ → S → S) (a b : ℕ) (s : S) → a ≤ b → P a s
+    → ((k : ℕ) (t : S) → a ≤ k → k < b → P k t → P (k + 1) (f k t)) → P b (over f a b s)
 over-holds P f a b s l h step =
     from (λ k. k ≤ b → P k (over f a k s)) a (λ _. rw (← over-none f a s) h)
     (λ k q ih g. rw (← over-more f a k s q) (step k (over f a k s) q (omega arith) (ih (omega arith)))) b l (omega arith)

@@ -1,6 +1,6 @@
--- A BUFFER WRITTEN FROM THE FRONT, w places in each turn: after k turns the first w * k places are the new parts and the rest is still as it was. The new part may
--- be worked out of what the buffer holds at that place (in-place loops: `turn-reads`) or of anything else (filling). A buffer whose parts were
--- written in any order is such a mix too (`mix-of`).
+-- A BUFFER WRITTEN FROM THE FRONT, w places in each turn: after k turns the first w * k places are the new parts and the rest
+-- is still as it was. The new part may be worked out of what the buffer holds at that place (in-place loops: `turn-reads`) or
+-- of anything else (filling). A buffer whose parts were written in any order is such a mix too (`mix-of`).
 use Prim.Native.Nat.{ℕ, _+_, _*_, _-_, _≤_, _<_}
 use mathlib.Core.Path.{_≡_, refl, ap, sym, _∙_, subst}
 use mathlib.Core.List.{List, [], _∷_, _++_, append-assoc, append-nil}
@@ -47,7 +47,14 @@ module _ {A : Type 0} (w : ℕ) (f : ℕ → List A) (long : (j : ℕ) → lengt
       let e : length (gather f 0 k) ≡ w * k = length-parts k in
       let room : w * k + length (f k) ≤ length (mix w k f l) = omega (arith, long k, length-mix k l (omega arith)) in
       sets-eq (f k) (mix w k f l) (w * k) room
-      ∙ rw (take-at (gather f 0 k) (drop (w * k) l) (w * k) e, long k, past (gather f 0 k) (drop (w * k) l) (w * k) w e, drop-drop, one-on, ← gather-more f 0 k (omega arith))
+      ∙ rw (
+        take-at (gather f 0 k) (drop (w * k) l) (w * k) e,
+        long k,
+        past (gather f 0 k) (drop (w * k) l) (w * k) w e,
+        drop-drop,
+        one-on,
+        ← gather-more f 0 k (omega arith),
+      )
 
   -- the two, as a loop's turn has them: x is the buffer at the loop's head, y after the turn's store of v
   pub turn-reads : (k j : ℕ) (l x : List A) (d : A) → x ≡ mix w k f l → getD x (w * k + j) d ≡ getD l (w * k + j) d
@@ -71,7 +78,8 @@ module _ {A : Type 0} (w : ℕ) (d : A) where
   part-new l p v e room i h = written-at l (w * p) v i d (omega arith) (omega arith)
 
   -- and the others are as they were
-  pub part-else : (l : List A) (p : ℕ) (v : List A) (j : ℕ) → length v ≡ w → (j ≡ p → ⊥) → (i : ℕ) → i < w → getD (written l (w * p) v) (w * j + i) d ≡ getD l (w * j + i) d
+  pub part-else : (l : List A) (p : ℕ) (v : List A) (j : ℕ) → length v ≡ w → (j ≡ p → ⊥) → (i : ℕ) → i < w → getD (written l (w * p) v) (w * j + i) d
+      ≡ getD l (w * j + i) d
   part-else l p v j e ne i h =
       written-other l (w * p) v (w * j + i) d
       (⊎-elim (λ g. inl (omega (arith, below j p g)))
@@ -83,7 +91,8 @@ module _ {A : Type 0} (w : ℕ) (d : A) where
       ⊎-elim (λ s. rw s (part-new l p v e room i g)) (λ ne. part-else l p v j e ne i g ∙ h i g) (same-or j p)
 
   -- what holds f's parts below k, and past them is as it was, is the mix of the two
-  pub mix-of : (f : ℕ → List A) → ((j : ℕ) → length (f j) ≡ w) → (k : ℕ) (l x : List A) → w * k ≤ length x → ((j : ℕ) → j < k → Holds w d x j (f j)) → drop (w * k) x ≡ drop (w * k) l → x ≡ mix w k f l
+  pub mix-of : (f : ℕ → List A) → ((j : ℕ) → length (f j) ≡ w) → (k : ℕ) (l x : List A) → w * k ≤ length x → ((j : ℕ) → j < k → Holds w d x j (f j))
+      → drop (w * k) x ≡ drop (w * k) l → x ≡ mix w k f l
   mix-of f long k l x room parts rest =
       let front : take (w * k) x ≡ gather f 0 k =
       ext-getD d (take (w * k) x) (gather f 0 k) (length-take-le (w * k) x room ∙ sym (length-parts w f long k))
@@ -98,8 +107,10 @@ module _ {A : Type 0} (w : ℕ) (d : A) where
           let less : i - upTo f r < w = omega (arith, t .1 .1 .0, t .1 .1 .1, upTo-even f w long r, upTo-even f w long (r + 1), one-on w r) in
           let even : upTo f r ≡ w * r = upTo-even f w long r in
           let place : w * r + (i - upTo f r) ≡ i = omega (arith, t .1 .1 .0) in
-          (rw place at (parts r (t .1 .0) (i - upTo f r) less)) ∙ sym (ap (λ (q : ℕ). getD (gather f 0 k) q d) at ∙ gather-at f k r (i - upTo f r) d (t .1 .0) (omega (arith, long r)))
+          (rw place at (parts r (t .1 .0) (i - upTo f r) less)) ∙ sym (ap (λ (q : ℕ). getD (gather f 0 k) q d) at ∙ gather-at f k r (i - upTo f r) d
+          (t .1 .0) (omega (arith, long r)))
 
 -- a buffer that the parts fill
 pub mix-whole : {A : Type 0} (w k : ℕ) (f : ℕ → List A) (l : List A) → length l ≡ w * k → mix w k f l ≡ gather f 0 k
-mix-whole {A} w k f l e = ap (λ (i : ℕ). gather f 0 k ++ drop i l) (sym e) ∙ ap (λ (t : List A). gather f 0 k ++ t) (drop-length l) ∙ append-nil (gather f 0 k)
+mix-whole {A} w k f l e = ap (λ (i : ℕ). gather f 0 k ++ drop i l) (sym e) ∙ ap (λ (t : List A). gather f 0 k ++ t) (drop-length l)
+    ∙ append-nil (gather f 0 k)

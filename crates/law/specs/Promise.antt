@@ -65,7 +65,8 @@ module _ {I O : Type 0} (d : Door I O) (i : I) (r : ℕ) (e : r ≡ verdict (d .
 abbrev pub Counted : {I O T : Type 0} → Door I O → (T → O → T) → I → T → O → T → Type 0
 Counted d counts i t o u = Promise d i o × (u ≡ counts t o)
 
-pub one-count : {I O T : Type 0} (d : Door I O) (counts : T → O → T) (i : I) (t : T) (o p : O) (u v : T) → Counted d counts i t o u → Counted d counts i t p v → (o ≡ p) × (u ≡ v)
+pub one-count : {I O T : Type 0} (d : Door I O) (counts : T → O → T) (i : I) (t : T) (o p : O) (u v : T) → Counted d counts i t o u
+    → Counted d counts i t p v → (o ≡ p) × (u ≡ v)
 one-count d counts i t o p u v h g =
     let e : o ≡ p = one-outcome d i o p (h .0) (g .0) in
     (e, h .1 ∙ ap (counts t) e ∙ sym (g .1))

@@ -1,4 +1,5 @@
--- A WRITER'S TURN: a list stored into a buffer from a place on, and the place past it. Writers are joined end to end, and the room for all of them is the room for each.
+-- A WRITER'S TURN: a list stored into a buffer from a place on, and the place past it.
+-- Writers are joined end to end, and the room for all of them is the room for each.
 use Prim.Native.Nat.{ℕ, _+_, _≤_}
 use mathlib.Core.Path.{_≡_, refl, sym, _∙_}
 use mathlib.Core.List.{List, [], _∷_, _++_}

@@ -1,4 +1,5 @@
--- THE REFUSAL LIST of a door: numbered tests, in the order of document 01's numbers. The answer is the number of the first test that fails, and 0 where none does.
+-- THE REFUSAL LIST of a door: numbered tests, in the order of document 01's numbers. The
+-- answer is the number of the first test that fails, and 0 where none does.
 use Prim.Native.Nat.{ℕ, zero, suc, _≤_, _<_}
 use native.Mathlib.Omega.{arith}
 use mathlib.Core.Logic.{_⊎_, inl, inr, ⊎-elim}
@@ -63,7 +64,8 @@ abbrev pub Passed : List Test → Type 0
 Passed [] = Unit {0}
 Passed (t ∷ ts) = (t .passes ≡ true) × Passed ts
 
-passed-or : (k : ℕ) (t : Test) (ts : List Test) (x : Bool) → t .passes ≡ x → 0 < k → k ≤ t .number → verdict (t ∷ ts) ≡ 0 → (verdict ts ≡ 0 → Passed ts) → Passed (t ∷ ts)
+passed-or : (k : ℕ) (t : Test) (ts : List Test) (x : Bool) → t .passes ≡ x → 0 < k → k ≤ t .number → verdict (t ∷ ts) ≡ 0
+    → (verdict ts ≡ 0 → Passed ts) → Passed (t ∷ ts)
 unfolding verdict
 passed-or k t ts true e p l h more = (e, more (ap (λ (y : Bool). cond y (verdict ts) (t .number)) (sym e) ∙ h))
 passed-or k t ts false e p l h more =
@@ -86,7 +88,8 @@ abbrev pub Fails : List Test → ℕ → Type 0
 Fails [] k = ⊥
 Fails (t ∷ ts) k = ((t .number ≡ k) × (t .passes ≡ false)) ⊎ Fails ts k
 
-fails-or : (t : Test) (ts : List Test) (x : Bool) → t .passes ≡ x → (0 < verdict ts → Fails ts (verdict ts)) → 0 < verdict (t ∷ ts) → Fails (t ∷ ts) (verdict (t ∷ ts))
+fails-or : (t : Test) (ts : List Test) (x : Bool) → t .passes ≡ x → (0 < verdict ts → Fails ts (verdict ts)) → 0 < verdict (t ∷ ts)
+    → Fails (t ∷ ts) (verdict (t ∷ ts))
 unfolding verdict
 fails-or t ts true e more h = rw e (inr (more (rw e at h)))
 fails-or t ts false e more h = rw e (inl (refl, refl))
@@ -100,7 +103,8 @@ no-lower : (ts : List Test) (j k : ℕ) → Rising j ts → Fails ts k → j ≤
 no-lower [] j k a f = elim f [ ]
 no-lower (t ∷ ts) j k a f = ⊎-elim (λ h. omega (arith, a .0, h .0)) (λ h. let l = no-lower ts (t .number) k (a .1) h in omega (arith, a .0)) f
 
-lowest-or : (t : Test) (ts : List Test) (x : Bool) (k : ℕ) → t .passes ≡ x → Rising (t .number) ts → (Fails ts k → verdict ts ≤ k) → Fails (t ∷ ts) k → verdict (t ∷ ts) ≤ k
+lowest-or : (t : Test) (ts : List Test) (x : Bool) (k : ℕ) → t .passes ≡ x → Rising (t .number) ts → (Fails ts k → verdict ts ≤ k) → Fails (t ∷ ts) k
+    → verdict (t ∷ ts) ≤ k
 unfolding verdict
 lowest-or t ts true k e a more f = rw e (⊎-elim (λ h. absurd (let z : _≡_ {A = ℕ} 0 1 = cc in omega arith)) (λ h. more h) f)
 lowest-or t ts false k e a more f = rw e (⊎-elim (λ h. omega (arith, h .0)) (λ h. no-lower ts (t .number) k a h) f)

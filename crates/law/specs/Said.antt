@@ -1,4 +1,5 @@
--- WHAT AN ANSWER SAYS: document 01's number and values for each case of an enum. A refusal says its number; any other answer which of the cases it is, the whole numbers that it carries, and its floats.
+-- WHAT AN ANSWER SAYS: document 01's number and values for each case of an enum. A refusal says its number;
+-- any other answer which of the cases it is, the whole numbers that it carries, and its floats.
 use Prim.Native.Nat.{ℕ}
 use mathlib.Core.List.{List}
 use lib.Ieee.{Float}

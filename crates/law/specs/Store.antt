@@ -36,7 +36,8 @@ module _ {A : Type 0} where
 
   -- ---- what stands where after a store
 
-  pub written-at : (l : List A) (i : ℕ) (vs : List A) (j : ℕ) (d : A) → j < length vs → i + length vs ≤ length l → getD (written l i vs) (i + j) d ≡ getD vs j d
+  pub written-at : (l : List A) (i : ℕ) (vs : List A) (j : ℕ) (d : A) → j < length vs → i + length vs ≤ length l
+      → getD (written l i vs) (i + j) d ≡ getD vs j d
   unfolding written
   written-at l i vs j d h room =
       let e : length (take i l) ≡ i = length-take-le i l (omega arith) in
@@ -83,7 +84,8 @@ module _ {A : Type 0} where
   pub drop-replicate : (k m : ℕ) (a : A) → k ≤ m → drop k (replicate m a) ≡ replicate (m - k) a
   drop-replicate k m a l =
       let e : k + (m - k) ≡ m = omega arith in
-      ap (λ (x : ℕ). drop k (replicate x a)) (sym e) ∙ ap (λ (t : List A). drop k t) (sym (replicate-append-replicate k (m - k) a)) ∙ drop-at (replicate k a) (replicate (m - k) a) k (length-replicate k a)
+      ap (λ (x : ℕ). drop k (replicate x a)) (sym e) ∙ ap (λ (t : List A). drop k t) (sym (replicate-append-replicate k (m - k) a))
+      ∙ drop-at (replicate k a) (replicate (m - k) a) k (length-replicate k a)
 
   -- ---- a part of a list, as the code lends it: `&l[a..b]`
 

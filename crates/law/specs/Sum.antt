@@ -41,7 +41,8 @@ sum-tight f g zero h e k l = absurd (omega arith)
 sum-tight f g (suc n) h e k l =
     let i = sum-most f g n (λ j o. h j (omega arith)) in
     let last = h n (omega arith) in
-    ⊎-elim (λ m. sum-tight f g n (λ j o. h j (omega arith)) (omega arith) k m) (λ (m : n ≤ k). let q : k ≡ n = omega arith in rw q (omega arith)) (below-or k n)
+    ⊎-elim (λ m. sum-tight f g n (λ j o. h j (omega arith)) (omega arith) k m) (λ (m : n ≤ k). let q : k ≡ n = omega arith in rw q (omega arith))
+    (below-or k n)
 
 pub sum-plus : (f g : ℕ → ℕ) (n : ℕ) → sum (λ k. f k + g k) n ≡ sum f n + sum g n
 unfolding sum

@@ -1,5 +1,8 @@
-// The laws that every crate cites are in specs/. The code has only document 01's limits and a widening cast.
+// The laws that every crate cites are in specs/. The code has only document 01's limits and refusal numbers, a widening cast and a list zeroed.
 ghost use Rattle.law.specs.Wide.{Widened};
+
+pub mod lists;
+pub mod refusal;
 
 // What a bracket model may hold.
 pub const PARTICLES: usize = 1024;

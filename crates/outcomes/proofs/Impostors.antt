@@ -7,10 +7,10 @@ use mathlib.Core.List.{List, [], _∷_}
 use mathlib.Core.Logic.{_⊎_, inl, inr, ⊎-elim}
 use Rattle.law.specs.Limit.{tally}
 use Rattle.law.specs.Promise.{by, outcome, zero-of}
-use Rattle.joined.specs.Pairs.{Together}
-use Rattle.chains.specs.Demand.{Chain, stay, link, Joined, Ordered}
-use Rattle.tally.specs.Runs.{fresh, solves}
-use Rattle.report.specs.Calls.{asksOf, sum-of-calls}
+use Rattle.matrix_pairs.specs.Pairs.{Together}
+use Rattle.order_demand3.specs.Demand.{Chain, stay, link, Chained, Ordered}
+use Rattle.step_tally.specs.Runs.{fresh, solves}
+use Rattle.step_doors.specs.Calls.{asksOf, sum-of-calls}
 use Rattle.outcomes.specs.Impostors.{NoGoodCallRefused, NoConstantOrder, NoSilentTally}
 
 pub no-good-call-refused : NoGoodCallRefused
@@ -24,7 +24,8 @@ module _ (a c : ℕ) where
   abbrev Either : ℕ → Type 0
   Either x = (x ≡ a) ⊎ (x ≡ c)
 
-  across : (i x y : ℕ) → i < 1 → (((getD (a ∷ c ∷ []) (2 * i) 0 ≡ x) × (getD (a ∷ c ∷ []) (2 * i + 1) 0 ≡ y)) ⊎ ((getD (a ∷ c ∷ []) (2 * i) 0 ≡ y) × (getD (a ∷ c ∷ []) (2 * i + 1) 0 ≡ x))) → Either y
+  across : (i x y : ℕ) → i < 1 → (((getD (a ∷ c ∷ []) (2 * i) 0 ≡ x) × (getD (a ∷ c ∷ []) (2 * i + 1) 0 ≡ y))
+      ⊎ ((getD (a ∷ c ∷ []) (2 * i) 0 ≡ y) × (getD (a ∷ c ∷ []) (2 * i + 1) 0 ≡ x))) → Either y
   across zero x y l h = ⊎-elim (λ e. inr (sym (e .1))) (λ e. inl (sym (e .0))) h
   across (suc i) x y l h = absurd (omega arith)
 
@@ -39,7 +40,7 @@ pub no-constant-order : NoConstantOrder
 no-constant-order o h =
     let r : Ordered 3 (Together (0 ∷ 0 ∷ []) 1) o = h 0 0 (omega arith) (omega arith) in
     let s : Ordered 3 (Together (o 0 ∷ o 2 ∷ []) 1) o = h (o 0) (o 2) (r .below 0 (omega arith)) (r .below 2 (omega arith)) in
-    let ends : Joined (Together (o 0 ∷ o 2 ∷ []) 1) (o 0) (o 2) = (1, link (inr (0, (omega arith, inl (refl, refl)))) stay) in
+    let ends : Chained (Together (o 0 ∷ o 2 ∷ []) 1) (o 0) (o 2) = (1, link (inr (0, (omega arith, inl (refl, refl)))) stay) in
     let middle = s .unbroken 0 1 2 (omega arith) (omega arith) (omega arith) ends .0 in
     ⊎-elim
     (λ e. let z = r .once 1 0 (omega arith) (omega arith) e in absurd (omega arith))

@@ -2,15 +2,15 @@
 // many as it takes.
 ghost use Prim.Native.Nat.{_+_, _≤_, _<_};
 ghost use lib.ListN.{length};
-ghost use Rattle.tokens.specs.Room.{room};
-use tokens::print::Room;
-use tokens::print::end;
-use tokens::print::float;
-use tokens::print::floats;
-use tokens::print::unknown;
-use tokens::word::gap;
-use tokens::word::numbers;
-use tokens::word::real;
+ghost use Rattle.replay_tokens.specs.Room.{room};
+use replay_tokens::print::Room;
+use replay_tokens::print::end;
+use replay_tokens::print::float;
+use replay_tokens::print::floats;
+use replay_tokens::print::unknown;
+use replay_tokens::word::gap;
+use replay_tokens::word::numbers;
+use replay_tokens::word::real;
 
 fn vector(w: &[u32], at: usize) -> [f32; 2]
     requires { ⌜ at + 1 < length (now w) ⌝ }
@@ -126,9 +126,6 @@ fn operate(name: &[u8], w: &[u32], out: &mut Room) -> usize
     let iterated = replay_gradient::operation::operate(name, w, out);
     if iterated > 0 {
         return iterated;
-    }
-    if check::same(name, b"response_into") {
-        return replay_response::respond::response_into(w, out);
     }
     let stepped = replay_step::operation::operate(name, w, out);
     if stepped > 0 {

@@ -2,8 +2,8 @@
 ghost use Prim.Native.Nat.{_≤_};
 ghost use lib.ListN.{length};
 use crate::answer::answer;
-use tokens::print::Room;
-use tokens::print::unknown;
+use replay_tokens::print::Room;
+use replay_tokens::print::unknown;
 
 // Answers the line of n bytes. One that fills its buffer may have lost its end, so it is taken for none.
 fn respond(line: &[u8], n: usize, words: &mut [u32], out: &mut Room)

@@ -7,8 +7,8 @@ mod line;
 fn run(fd: i32) {
     let mut chunk = [0u8; 4096];
     let mut text = [0u8; 65536];
-    let mut words = [0u32; 32768];
-    let mut out = [0u8; tokens::print::ROOM];
+    let mut words = [0u32; replay_tokens::list::WORDS];
+    let mut out = [0u8; replay_tokens::print::ROOM];
     line::replay(fd, &mut chunk, &mut text, &mut words, &mut out);
 }
 

@@ -1,18 +1,19 @@
-// Factoring, over a pattern's and a plan's lists as they stand in the line. Values stand in buffers. The answer is the verdict, then the values as they stand afterwards.
+// Factoring, over a pattern's and a plan's lists as they stand in the line. Values stand in
+// buffers. The answer is the verdict, then the values as they stand afterwards.
 ghost use Prim.Native.Nat.{_≤_};
-ghost use Rattle.tokens.specs.Room.{room};
-use direct::Factored;
+ghost use Rattle.replay_tokens.specs.Room.{room};
+use factor_doors::Factored;
 use law::wide;
-use tokens::list::LONGEST;
-use tokens::list::filled;
-use tokens::list::lent_reals;
-use tokens::list::plain;
-use tokens::list::wholes;
-use tokens::print::Room;
-use tokens::print::float_list;
-use tokens::print::word;
-use tokens::verdict::failed;
-use tokens::verdict::refused;
+use replay_tokens::list::LONGEST;
+use replay_tokens::list::filled;
+use replay_tokens::list::lent_reals;
+use replay_tokens::list::plain;
+use replay_tokens::list::wholes;
+use replay_tokens::print::Room;
+use replay_tokens::print::float_list;
+use replay_tokens::print::word;
+use replay_tokens::verdict::failed;
+use replay_tokens::verdict::refused;
 
 fn factored(answer: Factored, out: &mut Room) -> usize
     ensures { λ r. ⌜ r ≤ room ⌝ }
@@ -26,7 +27,7 @@ fn factored(answer: Factored, out: &mut Room) -> usize
 
 // The call, with what the line gives it.
 fn made(w: &[u32], blocks: &[f32], values: &mut [f32]) -> Factored {
-    direct::factorize(
+    factor_doors::factorize(
         wide(plain(w, 0)),
         wholes(w, 1, 0),
         wholes(w, 1, 1),

@@ -1,13 +1,14 @@
 // How a solve ended, as an answer line tells it: behind the lists, the outcome's number and count, and its floats; nothing of either in a refusal.
 ghost use Prim.Native.Nat.{_≤_};
-ghost use Rattle.tokens.specs.Room.{room};
-use gradient::Solved;
-use tokens::print::Room;
-use tokens::print::float;
-use tokens::print::whole;
-use tokens::print::word;
-use tokens::verdict::refused;
-use turn::Outcome;
+ghost use Rattle.replay_tokens.specs.Room.{room};
+use gradient_definition::Outcome;
+use gradient_doors::Solved;
+use replay_tokens::print::Room;
+use replay_tokens::print::float;
+use replay_tokens::print::float_list;
+use replay_tokens::print::whole;
+use replay_tokens::print::word;
+use replay_tokens::verdict::refused;
 
 // The answer's first words.
 pub fn solved(answer: Solved, out: &mut Room) -> usize
@@ -17,6 +18,26 @@ pub fn solved(answer: Solved, out: &mut Room) -> usize
         Solved::Refused(number) => refused(number, out),
         Solved::Ran(_) => word(b"done", out, 0),
     }
+}
+
+// The last five lists that a solve may change, as they stand afterwards.
+pub fn show(
+    first: &[f32],
+    residual: &[f32],
+    direction: &[f32],
+    a_direction: &[f32],
+    z: &[f32],
+    out: &mut Room,
+    at: usize,
+) -> usize
+    requires { ⌜ at ≤ room ⌝ }
+    ensures { λ r. ⌜ r ≤ room ⌝ }
+{
+    let mut to = float_list(first, out, at);
+    to = float_list(residual, out, to);
+    to = float_list(direction, out, to);
+    to = float_list(a_direction, out, to);
+    float_list(z, out, to)
 }
 
 pub fn pair(how: u64, count: usize, out: &mut Room, at: usize) -> usize

@@ -1,30 +1,30 @@
 // An update of the preconditioner. Values stand in buffers.
 ghost use Prim.Native.Nat.{_≤_};
-ghost use Rattle.tokens.specs.Room.{room};
+ghost use Rattle.replay_tokens.specs.Room.{room};
 use law::wide;
-use tokens::list::LONGEST;
-use tokens::list::filled;
-use tokens::list::lent_reals;
-use tokens::list::plain;
-use tokens::list::wholes;
-use tokens::print::Room;
-use tokens::print::float_list;
-use tokens::print::word;
-use tokens::verdict::refused;
+use replay_tokens::list::LONGEST;
+use replay_tokens::list::filled;
+use replay_tokens::list::lent_reals;
+use replay_tokens::list::plain;
+use replay_tokens::list::wholes;
+use replay_tokens::print::Room;
+use replay_tokens::print::float_list;
+use replay_tokens::print::word;
+use replay_tokens::verdict::refused;
 
-fn updated(answer: gradient::Updated, out: &mut Room) -> usize
+fn updated(answer: gradient_doors::Updated, out: &mut Room) -> usize
     ensures { λ r. ⌜ r ≤ room ⌝ }
 {
     match answer {
-        gradient::Updated::Refused(number) => refused(number, out),
-        gradient::Updated::Done => word(b"done", out, 0),
+        gradient_doors::Updated::Refused(number) => refused(number, out),
+        gradient_doors::Updated::Done => word(b"done", out, 0),
     }
 }
 
 fn call(w: &[u32], blocks: &[f32], preconditioner: &mut [f32], out: &mut Room) -> usize
     ensures { λ r. ⌜ r ≤ room ⌝ }
 {
-    let answer = gradient::update_preconditioner(
+    let answer = gradient_doors::update_preconditioner(
         wide(plain(w, 0)),
         wholes(w, 1, 0),
         wholes(w, 1, 1),

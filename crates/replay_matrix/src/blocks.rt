@@ -1,16 +1,16 @@
 // The block matrix's other operations, over a pattern's lists as they stand in the line. Values stand in buffers.
 ghost use Prim.Native.Nat.{_≤_};
-ghost use Rattle.tokens.specs.Room.{room};
+ghost use Rattle.replay_tokens.specs.Room.{room};
 use crate::verdict::found;
 use crate::verdict::ran;
 use law::wide;
-use tokens::list::LONGEST;
-use tokens::list::filled;
-use tokens::list::lent_reals;
-use tokens::list::plain;
-use tokens::list::wholes;
-use tokens::print::Room;
-use tokens::print::float_list;
+use replay_tokens::list::LONGEST;
+use replay_tokens::list::filled;
+use replay_tokens::list::lent_reals;
+use replay_tokens::list::plain;
+use replay_tokens::list::wholes;
+use replay_tokens::print::Room;
+use replay_tokens::print::float_list;
 
 pub fn block_index(w: &[u32], out: &mut Room) -> usize
     ensures { λ r. ⌜ r ≤ room ⌝ }
@@ -22,7 +22,7 @@ pub fn block_index(w: &[u32], out: &mut Room) -> usize
         return 0;
     }
     found(
-        pattern::block_index(
+        matrix_doors::block_index(
             wide(w[0]),
             wholes(w, 3, 0),
             wholes(w, 3, 1),
@@ -44,7 +44,7 @@ pub fn diagonal_index(w: &[u32], out: &mut Room) -> usize
         return 0;
     }
     found(
-        pattern::diagonal_index(
+        matrix_doors::diagonal_index(
             wide(w[0]),
             wholes(w, 2, 0),
             wholes(w, 2, 1),
@@ -59,7 +59,7 @@ fn call_clear(w: &[u32], blocks: &mut [f32], out: &mut Room) -> usize
     ensures { λ r. ⌜ r ≤ room ⌝ }
 {
     let at = ran(
-        pattern::clear_values(
+        matrix_doors::clear_values(
             wide(plain(w, 0)),
             wholes(w, 1, 0),
             wholes(w, 1, 1),
@@ -85,7 +85,7 @@ fn call_pin(w: &[u32], blocks: &mut [f32], out: &mut Room) -> usize
     ensures { λ r. ⌜ r ≤ room ⌝ }
 {
     let at = ran(
-        pattern::make_dirichlet(
+        matrix_doors::make_dirichlet(
             wide(plain(w, 0)),
             wholes(w, 2, 0),
             wholes(w, 2, 1),
@@ -112,7 +112,7 @@ fn call_mul(w: &[u32], blocks: &[f32], x: &[f32], product: &mut [f32], out: &mut
     ensures { λ r. ⌜ r ≤ room ⌝ }
 {
     let at = ran(
-        pattern::mul(
+        matrix_doors::mul(
             wide(plain(w, 0)),
             wholes(w, 1, 0),
             wholes(w, 1, 1),

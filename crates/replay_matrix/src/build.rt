@@ -1,19 +1,19 @@
 // The building operations. The answer is the verdict, then every list that the call may change, as it stands afterwards. The lists are
 // lent by twos and threes: what a function knows makes each of its steps dear to check.
 ghost use Prim.Native.Nat.{_≤_};
-ghost use Rattle.tokens.specs.Room.{room};
+ghost use Rattle.replay_tokens.specs.Room.{room};
 use crate::verdict::built;
 use law::wide;
-use pattern::Built;
-use tokens::list::LONGEST;
-use tokens::list::filled;
-use tokens::list::lent_reals;
-use tokens::list::lent_wholes;
-use tokens::list::plain;
-use tokens::list::wholes;
-use tokens::print::Room;
-use tokens::print::float_list;
-use tokens::print::whole_list;
+use matrix_doors::Built;
+use replay_tokens::list::LONGEST;
+use replay_tokens::list::filled;
+use replay_tokens::list::lent_reals;
+use replay_tokens::list::lent_wholes;
+use replay_tokens::list::plain;
+use replay_tokens::list::wholes;
+use replay_tokens::print::Room;
+use replay_tokens::print::float_list;
+use replay_tokens::print::whole_list;
 
 fn show_pattern(
     row_offsets: &[u32],
@@ -38,7 +38,7 @@ fn made_pattern(
     diagonal: &mut [u32],
     work: &mut [u32],
 ) -> Built {
-    pattern::pattern_from_pairs(
+    matrix_doors::pattern_from_pairs(
         wide(plain(w, 0)),
         wide(plain(w, 1)),
         wholes(w, 2, 0),
@@ -72,7 +72,7 @@ fn made_matrix(
     blocks: &mut [f32],
     work: &mut [u32],
 ) -> Built {
-    pattern::from_pairs(
+    matrix_doors::from_pairs(
         wide(plain(w, 0)),
         wide(plain(w, 1)),
         wholes(w, 2, 0),

@@ -1,34 +1,34 @@
 // What the block matrix's answers begin with.
 ghost use Prim.Native.Nat.{_≤_};
-ghost use Rattle.tokens.specs.Room.{room};
-use tokens::print::Room;
-use tokens::print::word;
-use tokens::verdict::done;
-use tokens::verdict::refused;
+ghost use Rattle.replay_tokens.specs.Room.{room};
+use replay_tokens::print::Room;
+use replay_tokens::print::word;
+use replay_tokens::verdict::done;
+use replay_tokens::verdict::refused;
 
-pub fn built(answer: pattern::Built, out: &mut Room) -> usize
+pub fn built(answer: matrix_doors::Built, out: &mut Room) -> usize
     ensures { λ r. ⌜ r ≤ room ⌝ }
 {
     match answer {
-        pattern::Built::Refused(number) => refused(number, out),
-        pattern::Built::Done(count) => done(count as u64, out),
+        matrix_doors::Built::Refused(number) => refused(number, out),
+        matrix_doors::Built::Done(count) => done(count as u64, out),
     }
 }
 
-pub fn found(answer: pattern::Found, out: &mut Room) -> usize
+pub fn found(answer: matrix_doors::Found, out: &mut Room) -> usize
     ensures { λ r. ⌜ r ≤ room ⌝ }
 {
     match answer {
-        pattern::Found::Refused(number) => refused(number, out),
-        pattern::Found::Slot(slot) => done(slot as u64, out),
+        matrix_doors::Found::Refused(number) => refused(number, out),
+        matrix_doors::Found::Slot(slot) => done(slot as u64, out),
     }
 }
 
-pub fn ran(answer: pattern::Ran, out: &mut Room) -> usize
+pub fn ran(answer: matrix_doors::Ran, out: &mut Room) -> usize
     ensures { λ r. ⌜ r ≤ room ⌝ }
 {
     match answer {
-        pattern::Ran::Refused(number) => refused(number, out),
-        pattern::Ran::Done => word(b"done", out, 0),
+        matrix_doors::Ran::Refused(number) => refused(number, out),
+        matrix_doors::Ran::Done => word(b"done", out, 0),
     }
 }

@@ -1,18 +1,18 @@
-// Planning on the words of a stored case's line. The answer is the verdict, then every list that the call may change, as it stands afterwards. The lists are lent by
-// twos and threes: what a function knows makes each of its steps dear to check.
+// Planning on the words of a stored case's line. The answer is the verdict, then every list that the call may change, as it stands
+// afterwards. The lists are lent by twos and threes: what a function knows makes each of its steps dear to check.
 ghost use Prim.Native.Nat.{_≤_};
-ghost use Rattle.tokens.specs.Room.{room};
-use envelope::Planned;
+ghost use Rattle.replay_tokens.specs.Room.{room};
 use law::wide;
-use tokens::list::LONGEST;
-use tokens::list::filled;
-use tokens::list::lent_wholes;
-use tokens::list::plain;
-use tokens::list::wholes;
-use tokens::print::Room;
-use tokens::print::whole_list;
-use tokens::verdict::done;
-use tokens::verdict::refused;
+use plan_doors::Planned;
+use replay_tokens::list::LONGEST;
+use replay_tokens::list::filled;
+use replay_tokens::list::lent_wholes;
+use replay_tokens::list::plain;
+use replay_tokens::list::wholes;
+use replay_tokens::print::Room;
+use replay_tokens::print::whole_list;
+use replay_tokens::verdict::done;
+use replay_tokens::verdict::refused;
 
 fn planned(answer: Planned, out: &mut Room) -> usize
     ensures { λ r. ⌜ r ≤ room ⌝ }
@@ -72,7 +72,7 @@ fn made(
     level: &mut [u32],
     queue: &mut [u32],
 ) -> Planned {
-    envelope::plan(
+    plan_doors::plan(
         wide(plain(w, 0)),
         wholes(w, 1, 0),
         wholes(w, 1, 1),

@@ -1,5 +1,6 @@
-// The step's operations on the words of a stored case's line.
+// The step solve and the response on the words of a stored case's line.
 mod ending;
-mod factor;
+mod lent;
 pub mod operation;
+mod respond;
 mod solve;

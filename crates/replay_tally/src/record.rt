@@ -1,11 +1,11 @@
 // The tally as a line's list of seven counts.
 ghost use Prim.Native.Nat.{_+_, _≤_, _<_};
 ghost use lib.ListN.{length};
-ghost use Rattle.tokens.specs.Room.{room};
-use tally::Tally;
-use tokens::list::wholes;
-use tokens::print::Room;
-use tokens::print::whole_list;
+ghost use Rattle.replay_tokens.specs.Room.{room};
+use replay_tokens::list::wholes;
+use replay_tokens::print::Room;
+use replay_tokens::print::whole_list;
+use step_tally::Tally;
 
 const COUNTS: usize = 7;
 
@@ -27,7 +27,7 @@ fn counts(c: &[u32]) -> Tally
 pub fn read(w: &[u32], at: usize, lists: usize) -> Tally {
     let c = wholes(w, at, lists);
     if c.len() < COUNTS {
-        return tally::fresh();
+        return step_tally::fresh();
     }
     counts(c)
 }

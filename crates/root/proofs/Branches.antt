@@ -64,9 +64,11 @@ unfolding lt sqrtOf
 negative-is-nan nan h = refl
 negative-is-nan (inf true) h = refl
 negative-is-nan (inf false) h = absurd (false≢true h)
-negative-is-nan (fin true zero e) h = absurd (not-sum (0 * up e * 1) (0 * 1 * down e) (zero-product (up e) 1) (zero-product 1 (down e)) (ltb→lt 0 (0 * up e * 1 + 0 * 1 * down e) (is-T h)))
+negative-is-nan (fin true zero e) h = absurd (not-sum (0 * up e * 1) (0 * 1 * down e) (zero-product (up e) 1) (zero-product 1 (down e))
+    (ltb→lt 0 (0 * up e * 1 + 0 * 1 * down e) (is-T h)))
 negative-is-nan (fin true (suc m) e) h = refl
-negative-is-nan (fin false m e) h = absurd (not-below (m * up e * 1) (0 * 1 * down e) (zero-product 1 (down e)) (ltb→lt (m * up e * 1) (0 * 1 * down e) (is-T h)))
+negative-is-nan (fin false m e) h = absurd (not-below (m * up e * 1) (0 * 1 * down e) (zero-product 1 (down e))
+    (ltb→lt (m * up e * 1) (0 * 1 * down e) (is-T h)))
 
 quotient : div binary32 (ofBits binary32 0) (ofBits binary32 0) ≡ nan
 unfolding div ofBits
@@ -98,7 +100,8 @@ pub infinity-branch : (x : Float) → T (fits binary32 x) → toBits binary32 x 
 infinity-branch x f h = subst (λ (y : Float). y ≡ sqrtOf y) (sym (sym (ofBits-toBits binary32 x f) ∙ ap (ofBits binary32) h ∙ inf-is)) (sym root-of-infinity)
 
 -- what the tests leave are the patterns of the positive finite values
-positive-left : (x : Float) → T (fits binary32 x) → eq x plusZero ≡ false → lt x plusZero ≡ false → ne x x ≡ false → (toBits binary32 x ≡ 2139095040 → ⊥) → (0 < toBits binary32 x) × (toBits binary32 x < 2139095040)
+positive-left : (x : Float) → T (fits binary32 x) → eq x plusZero ≡ false → lt x plusZero ≡ false → ne x x ≡ false
+    → (toBits binary32 x ≡ 2139095040 → ⊥) → (0 < toBits binary32 x) × (toBits binary32 x < 2139095040)
 unfolding eq lt
 positive-left nan f a b c d = clash (ne nan nan) nan-differs c
 positive-left (inf true) f a b c d = absurd (true≢false b)
@@ -109,10 +112,12 @@ positive-left (fin s zero e) f a b c d =
     both : (s : Bool) (u v : ℕ) → u ≡ 0 → v ≡ 0 → (eqb u v && (Bool·beq s false || eqb u 0)) ≡ true
     both true u v p q = ap (λ (t : Bool). t && eqb u 0) (eq-eqb u v (p ∙ sym q)) ∙ eq-eqb u 0 p
     both false u v p q = ap (λ (t : Bool). t && true) (eq-eqb u v (p ∙ sym q))
-positive-left (fin true (suc m) e) f a b c d = absurd (true≢false (sym (lt-ltb 0 (suc m * up e * 1 + 0 * 1 * down e) (sum-above (suc m * up e * 1) (0 * 1 * down e) (size-pos m e))) ∙ b))
+positive-left (fin true (suc m) e) f a b c d = absurd
+    (true≢false (sym (lt-ltb 0 (suc m * up e * 1 + 0 * 1 * down e) (sum-above (suc m * up e * 1) (0 * 1 * down e) (size-pos m e))) ∙ b))
 positive-left (fin false (suc m) e) f a b c d = (pattern-pos m e f, pattern-lt (suc m) e f)
 
-pub positive-branch : (x : Float) → T (fits binary32 x) → eq x (ofBits binary32 0) ≡ false → lt x (ofBits binary32 0) ≡ false → ne x x ≡ false → (toBits binary32 x ≡ 2139095040 → ⊥) → (0 < toBits binary32 x) × (toBits binary32 x < 2139095040)
+pub positive-branch : (x : Float) → T (fits binary32 x) → eq x (ofBits binary32 0) ≡ false → lt x (ofBits binary32 0) ≡ false → ne x x ≡ false
+    → (toBits binary32 x ≡ 2139095040 → ⊥) → (0 < toBits binary32 x) × (toBits binary32 x < 2139095040)
 positive-branch x f a b c d = positive-left x f (ap (eq x) (sym zero-is) ∙ a) (ap (lt x) (sym zero-is) ∙ b) c d
 
 valued : (x : Float) (n c : ℕ) → HasValue x false n c → isNan x ≡ false
@@ -122,11 +127,15 @@ valued (inf s) n c v = absurd v
 valued (fin s m e) n c v = refl
 
 -- the pattern that `root_bits` makes stands for the root, and is no NaN's
-pub root-branch : (x : Float) (r : ℕ) → T (fits binary32 x) → 0 < toBits binary32 x → toBits binary32 x < 2139095040 → r ≡ toBits binary32 (sqrtOf (ofBits binary32 (toBits binary32 x)))
+pub root-branch : (x : Float) (r : ℕ) → T (fits binary32 x) → 0 < toBits binary32 x → toBits binary32 x < 2139095040
+    → r ≡ toBits binary32 (sqrtOf (ofBits binary32 (toBits binary32 x)))
     → (ofBits binary32 r ≡ sqrtOf x) × T (not (nanBits binary32 r))
 root-branch x r f p h e =
     let b = toBits binary32 x in
     let z = split-of b p h in
     let v = sqrtOf (ofBits binary32 b) in
-    let back : ofBits binary32 r ≡ v = ap (ofBits binary32) e ∙ ofBits-toBits binary32 v (root-fits b (z .0) (z .1) p h (z .2)) in
-    (back ∙ ap sqrtOf (ofBits-toBits binary32 x f), subst (λ (t : Bool). T (not t)) (sym (nanBits-is binary32 r ∙ ap isNan back ∙ valued v _ _ (root-units b (z .0) (z .1) p h (z .2)))) tt)
+    let back : ofBits binary32 r ≡ v = ap (ofBits binary32) e ∙ ofBits-toBits binary32 v (root-fits b (z .0) (z .1) p h (z .2)) in (
+      back ∙ ap sqrtOf (ofBits-toBits binary32 x f),
+      subst (λ (t : Bool). T (not t))
+          (sym (nanBits-is binary32 r ∙ ap isNan back ∙ valued v _ _ (root-units b (z .0) (z .1) p h (z .2)))) tt,
+    )

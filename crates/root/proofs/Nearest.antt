@@ -1,5 +1,5 @@
--- The whole number nearest to a root: the root's whole part q where the rest n - q * q is at most q, and q + 1 otherwise. `no-tie`: the root is never half-way.
--- Assumes nothing.
+-- The whole number nearest to a root: the root's whole part q where the rest n - q * q is at most
+-- q, and q + 1 otherwise. `no-tie`: the root is never half-way. Assumes nothing.
 use mathlib.Core.Path.{_≡_, refl, sym, ap, _∙_}
 use mathlib.Core.Logic.{_⊎_, inl, inr}
 use mathlib.Core.Bool.{Bool, true, false, not}
@@ -69,7 +69,8 @@ moves n q e h =
     let l : q * q + q < n = omega arith in
     sym (nearest-is n q e ∙ ap (nearest q) (compare-gt (n * 4) (middle q) (over n q l)))
 
--- The two cases, with what holds in each: the nearest number g is q, and the root is below the middle of q and q + 1; or g is q + 1, and the root is above it.
+-- The two cases, with what holds in each: the nearest number g is q, and the root is
+-- below the middle of q and q + 1; or g is q + 1, and the root is above it.
 abbrev pub Cases : ℕ → ℕ → ℕ → Type 0
 Cases n q g = ((g ≡ q) × (n * 4 < middle q)) ⊎ ((g ≡ suc q) × (middle q < n * 4))
 

@@ -1,12 +1,13 @@
-// The picture program: a text as the bench program reads it, from standard input; the pattern before and after ordering as a portable bitmap, to standard output.
-use sketch::inner::Sketched;
+// The picture program: a text as the bench program reads it, from standard input; the pattern before and after ordering, as a portable bitmap, to standard
+// output.
+use bench_sketch::inner::Sketched;
 ghost use mathlib.Core.Path.{_≡_};
 ghost use Prim.Native.Nat.{_*_, _≤_};
 ghost use lib.ListN.{length};
 ghost use Rattle.law.specs.Limit.{particles};
-ghost use Rattle.drawing.specs.Drawn.{Sheet};
-ghost use Rattle.desk.specs.Read.{numbersRoom};
-ghost use Rattle.picture.specs.Ready.{lineRoom};
+ghost use Rattle.bench_plan.specs.Built.{Sheet};
+ghost use Rattle.bench_plan.specs.Read.{numbersRoom};
+ghost use Rattle.bench_picture.specs.Ready.{lineRoom};
 
 mod output;
 
@@ -22,9 +23,12 @@ fn reply_in(
     first: &mut [u32],
     line: &mut [u8],
 )
-    requires { ⌜ (length (now numbers) ≡ numbersRoom) × (Sheet (now «row_offsets») (now cols) (now diagonal) (now work) (now order) × ((2 * particles ≤ length (now first)) × (lineRoom particles ≤ length (now line)))) ⌝ }
+    requires { ⌜
+        (length (now numbers) ≡ numbersRoom) ×
+        (Sheet (now «row_offsets») (now cols) (now diagonal) (now work) (now order)
+        × ((2 * particles ≤ length (now first)) × (lineRoom particles ≤ length (now line)))) ⌝ }
 {
-    let came = sketch::inner::sketch(
+    let came = bench_sketch::inner::sketch(
         text,
         numbers,
         row_offsets,

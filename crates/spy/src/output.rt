@@ -2,14 +2,14 @@
 ghost use Prim.Native.Nat.{_≤_};
 ghost use lib.ListN.{length};
 ghost use Rattle.law.specs.Limit.{particles};
-ghost use Rattle.picture.specs.Pixels.{scene};
-ghost use Rattle.picture.specs.Ready.{Ready, lineRoom};
+ghost use Rattle.bench_picture.specs.Pixels.{scene};
+ghost use Rattle.bench_picture.specs.Ready.{Ready, lineRoom};
 
 // The line of a refusal.
 pub fn refuse(no: u8, line: &mut [u8])
     requires { ⌜ lineRoom particles ≤ length (now line) ⌝ }
 {
-    let k = print::inner::write_refused(no, line);
+    let k = bench_print::inner::write_refused(no, line);
     io::write_all(libc::STDOUT_FILENO, &line[..k]);
 }
 
@@ -17,7 +17,7 @@ pub fn refuse(no: u8, line: &mut [u8])
 fn header(n: usize, line: &mut [u8])
     requires { ⌜ (n ≤ particles) × (lineRoom particles ≤ length (now line)) ⌝ }
 {
-    let k = picture::inner::write_header(n, line);
+    let k = bench_picture::inner::write_header(n, line);
     io::write_all(libc::STDOUT_FILENO, &line[..k]);
 }
 
@@ -34,7 +34,7 @@ pub fn draw(
 {
     header(n, line);
     for i in 0..2 * n {
-        let k = picture::inner::write_line(n, row_offsets, cols, order, first, i, line);
+        let k = bench_picture::inner::write_line(n, row_offsets, cols, order, first, i, line);
         io::write_all(libc::STDOUT_FILENO, &line[..k]);
     }
 }

@@ -1,2 +1,3 @@
-// Vectors and blocks in lent slices: one of them, and whole-vector sums and in-place steps.
+// Vectors of all particles, and their multiples added up, over lent lists of two floats for each particle.
 pub mod inner;
+pub mod multiples;

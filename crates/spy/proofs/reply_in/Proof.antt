@@ -13,7 +13,9 @@ enum-known-came : tie.Need-enum-known-came
 enum-known-came c = search needs
 
 refuse-requires : tie.Need-refuse-requires
-refuse-requires c κs = c .before .before .before .before .before .before .before .before .before .before .before .before .before .before .before .before .before .before .before .before .before .before .before .before .before .before .before .before .before .before .before .before .before .before .before .pre .1 .1 .1
+refuse-requires c κs = c .before .before .before .before .before .before .before .before .before .before .before .before .before .before .before
+    .before .before .before .before .before .before .before .before .before .before .before .before .before .before .before .before .before .before
+    .before .before .pre .1 .1 .1
 
 enum-known-came-2 : tie.Need-enum-known-came-2
 enum-known-came-2 c = search needs

@@ -1,24 +1,20 @@
 -- `vectors::inner::clear` meets its contract. Assumes nothing.
-use mathlib.Core.Path.{_≡_, refl, _∙_}
-use Prim.Native.Nat.{_+_, _*_, _-_, _≤_, zero-le}
-use native.Mathlib.Omega.{arith}
+use mathlib.Core.Path.{refl}
+use Prim.Native.Nat.{_-_}
 use borrow.Author.Needs.{needs}
-use denote.Ref.{now}
-use lib.ListN.{length}
-use Rattle.law.specs.Mix.{mix, mix-none}
 use Rattle.plane.specs.Plane.{zeroOf}
-use Rattle.vectors.specs.Whole.{part-stored}
+use Rattle.vectors.specs.Whole.{Front, front-none, front-turn, front-done}
 use Rattle.vectors.proofs.inner.clear.Statement.{statement}
 use Rattle.vectors.proofs.inner.clear.Tie as tie
 
 abbrev Inv-loop : tie.InvT-loop
-Inv-loop n x₀ k₀ x k = (k ≤ n) × (x ≡ mix 2 k (λ j. zeroOf) x₀) × (length x ≡ length x₀)
+Inv-loop n x₀ k₀ x k = Front (λ j. zeroOf) n k x₀ x
 
 abbrev μ-loop : tie.MeasureT-loop
 μ-loop n x₀ k₀ x k = n - k
 
 loop-holds : tie.Need-loop-holds Inv-loop μ-loop
-loop-holds c = (zero-le, mix-none 2 _ (λ j. refl) _, refl)
+loop-holds c = front-none _ (λ j. refl) _ _
 
 set-vector-requires : tie.Need-set-vector-requires Inv-loop μ-loop
 set-vector-requires c κs = search needs
@@ -35,20 +31,14 @@ loop-again c =
     let i = w .before .before in
     let q = i .before in
     let s = q .before .before in
-    let room : 2 * q .loop .k + 2 ≤ length (now (s .args .x)) = omega (arith, i .loop-test .taken, s .pre) in (
-      search needs,
-      part-stored _ (λ j. refl) _ _ _ (q .loop .inv .1) _ _ (w .set-vector .ensures) (refl) room,
-      w .set-vector .kept .0 ∙ q .loop .inv .2,
-    )
+    front-turn _ (λ j. refl) _ _ _ _ _ _ (q .loop .inv) (i .loop-test .taken) (s .pre) (w .set-vector .ensures) (w .set-vector .kept .0)
+    (λ e. (refl))
 
 same-length : tie.Need-same-length Inv-loop μ-loop
 same-length c = search needs
 
 returns : tie.Need-returns Inv-loop μ-loop
-returns c =
-    let q = c .before in
-    let e : q .loop .k ≡ q .before .before .args .n = omega arith in
-    rw e at (q .loop .inv .1)
+returns c = let q = c .before in front-done _ (λ j. refl) _ _ _ _ (q .loop .inv) (c .loop-test .left)
 
 pub clear-spec : {M : Type 1} → statement M
 clear-spec =

@@ -1,24 +1,20 @@
 -- `vectors::inner::copy` meets its contract. Assumes nothing.
-use mathlib.Core.Path.{_≡_, refl, _∙_}
-use Prim.Native.Nat.{_+_, _*_, _-_, _≤_, zero-le}
-use native.Mathlib.Omega.{arith}
+use mathlib.Core.Path.{refl}
+use Prim.Native.Nat.{_-_}
 use borrow.Author.Needs.{needs}
-use denote.Ref.{now}
-use lib.ListN.{length}
-use Rattle.law.specs.Mix.{mix, mix-none}
 use Rattle.plane.specs.Lent.{vectorAt}
-use Rattle.vectors.specs.Whole.{part-stored}
+use Rattle.vectors.specs.Whole.{Front, front-none, front-turn, front-done}
 use Rattle.vectors.proofs.inner.copy.Statement.{statement}
 use Rattle.vectors.proofs.inner.copy.Tie as tie
 
 abbrev Inv-loop : tie.InvT-loop
-Inv-loop n s t₀ k₀ t k = (k ≤ n) × (t ≡ mix 2 k (vectorAt s) t₀) × (length t ≡ length t₀)
+Inv-loop n s t₀ k₀ t k = Front (vectorAt s) n k t₀ t
 
 abbrev μ-loop : tie.MeasureT-loop
 μ-loop n s t₀ k₀ t k = n - k
 
 loop-holds : tie.Need-loop-holds Inv-loop μ-loop
-loop-holds c = (zero-le, mix-none 2 _ (λ j. refl) _, refl)
+loop-holds c = front-none _ (λ j. refl) _ _
 
 vector-at-requires : tie.Need-vector-at-requires Inv-loop μ-loop
 vector-at-requires c κs = search needs
@@ -38,20 +34,14 @@ loop-again c =
     let i = w .before .before .before in
     let q = i .before in
     let s = q .before .before .before in
-    let room : 2 * q .loop .k + 2 ≤ length (now (s .args .t)) = omega (arith, i .loop-test .taken, s .pre .1) in (
-      search needs,
-      part-stored _ (λ j. refl) _ _ _ (q .loop .inv .1) _ _ (w .set-vector .ensures) (rw (w .before .vector-at .ensures)) room,
-      w .set-vector .kept .0 ∙ q .loop .inv .2,
-    )
+    front-turn _ (λ j. refl) _ _ _ _ _ _ (q .loop .inv) (i .loop-test .taken) (s .pre .1) (w .set-vector .ensures) (w .set-vector .kept .0)
+    (λ e. (rw (w .before .vector-at .ensures)))
 
 same-length : tie.Need-same-length Inv-loop μ-loop
 same-length c = search needs
 
 returns : tie.Need-returns Inv-loop μ-loop
-returns c =
-    let q = c .before in
-    let e : q .loop .k ≡ q .before .before .before .args .n = omega arith in
-    rw e at (q .loop .inv .1)
+returns c = let q = c .before in front-done _ (λ j. refl) _ _ _ _ (q .loop .inv) (c .loop-test .left)
 
 pub copy-spec : {M : Type 1} → statement M
 copy-spec =

@@ -34,8 +34,11 @@ loop-less c = search needs
 
 loop-again : tie.Need-loop-again Inv-loop μ-loop
 loop-again c =
-    let q = c .before .before .before .before in
-    (search needs, over-turn _ 0 _ _ _ _ zero-le (q .loop .inv .1) (rw (c .dot .ensures, c .before .vector-at2 .ensures, c .before .before .vector-at .ensures)))
+    let q = c .before .before .before .before in (
+      search needs,
+      over-turn _ 0 _ _ _ _ zero-le (q .loop .inv .1)
+          (rw (c .dot .ensures, c .before .vector-at2 .ensures, c .before .before .vector-at .ensures)),
+    )
 
 returns : tie.Need-returns Inv-loop μ-loop
 unfolding dotAll

@@ -1,0 +1,26 @@
+-- Each arm is given that f is its variant, at which `factoredNumber` computes.
+use borrow.Author.Needs.{needs}
+use Rattle.abi_answers.proofs.factored.factored_number.Statement.{statement}
+use Rattle.abi_answers.proofs.factored.factored_number.Tie as tie
+
+enum-known-f : tie.Need-enum-known-f
+enum-known-f c = search needs
+
+enum-told : tie.Need-enum-told
+enum-told c = search needs
+
+enum-told-2 : tie.Need-enum-told-2
+enum-told-2 c = search needs
+
+returns : tie.Need-returns
+returns c = search needs
+
+returns-2 : tie.Need-returns-2
+returns-2 c = search needs
+
+returns-3 : tie.Need-returns-3
+returns-3 c = search needs
+
+pub factored-number-spec : {M : Type 1} → statement M
+factored-number-spec =
+    tie.close (tie.spec enum-known-f enum-told enum-told-2 returns returns-2 returns-3)

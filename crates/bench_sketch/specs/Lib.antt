@@ -1,0 +1,3 @@
+pub mod Spied
+pub mod Prepared
+pub mod Sketch

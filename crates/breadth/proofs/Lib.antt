@@ -1,2 +1,0 @@
-mod Meeting
-pub mod Exploring

@@ -1,2 +1,0 @@
-// The breadth-first search over the particles that are not placed.
-pub mod search;

@@ -1,9 +1,0 @@
--- WHAT PLANNING SAYS: the envelope's length.
-use mathlib.Core.List.{[], _∷_}
-use Rattle.law.specs.Said.{Said, refused, carries}
-use Rattle.envelope.specs.declared.Planned.{Planned}
-use Rattle.envelope.specs.declared.Planned.the-variants as planned
-
-abbrev pub plannedSaid : Planned → Said
-plannedSaid (planned.Refused k) = refused k
-plannedSaid (planned.Done len) = carries 0 (len ∷ []) []

@@ -1,0 +1,2 @@
+mod PassReadings
+mod Readings

@@ -1,2 +1,0 @@
-// A pattern's buffers, filled from the rows' lists.
-pub mod filling;

@@ -1,0 +1,2 @@
+// The run of the conjugate gradient's turns.
+pub mod inner;

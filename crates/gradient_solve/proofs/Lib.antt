@@ -1,0 +1,2 @@
+mod LaunchLaws
+mod Laws

@@ -1,2 +1,0 @@
-// The conjugate gradient's preconditioner, the inverses of the diagonal blocks (document 01, module 5). `turn` has its definition.
-pub mod inner;

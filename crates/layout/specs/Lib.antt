@@ -1,4 +1,0 @@
-pub mod Listed
-pub mod Leftmost
-pub mod Starts
-pub mod Laid

@@ -1,4 +1,0 @@
-pub mod Ways
-pub mod Filed
-pub mod Chain
-pub mod Turned

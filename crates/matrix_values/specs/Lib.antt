@@ -1,0 +1,3 @@
+pub mod Product
+pub mod Dirichlet
+pub mod Mirrors

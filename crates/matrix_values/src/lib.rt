@@ -1,0 +1,3 @@
+// A matrix's values: the product, all zero, and a pinned row.
+pub mod inner;
+pub mod pinned;

@@ -1,0 +1,4 @@
+mod Meeting
+pub mod Exploring
+pub mod Looking
+mod Settling

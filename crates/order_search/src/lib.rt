@@ -1,0 +1,3 @@
+// The breadth-first search, and the search for a start by it.
+pub mod breadth;
+pub mod start;

@@ -1,3 +1,0 @@
-pub mod Passes
-pub mod Held
-pub mod Meaning

@@ -1,2 +1,0 @@
-// A pinned row of a block matrix.
-pub mod inner;

@@ -1,0 +1,4 @@
+pub mod EachOnce
+pub mod Leftmost
+pub mod Starts
+pub mod Laid

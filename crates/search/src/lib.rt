@@ -1,2 +1,0 @@
-// Where a stretch starts.
-pub mod start;

@@ -1,4 +1,0 @@
-pub mod Spied
-pub mod Drawn
-pub mod Prepared
-pub mod Sketch

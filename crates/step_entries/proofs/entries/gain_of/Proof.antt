@@ -1,0 +1,19 @@
+-- `step_entries::entries::gain_of` meets its contract. Assumes nothing.
+use Rattle.step_entries.specs.Entries.{gainOf}
+use Rattle.step_entries.proofs.entries.gain_of.Statement.{statement}
+use Rattle.step_entries.proofs.entries.gain_of.Tie as tie
+
+returns : tie.Need-returns
+unfolding gainOf
+returns c = rw (c .if1 .taken)
+
+returns-2 : tie.Need-returns-2
+unfolding gainOf
+returns-2 c = rw (c .if1 .left)
+
+pub gain-of-spec : {M : Type 1} → statement M
+gain-of-spec =
+    tie.close
+    (tie.spec
+    returns
+    returns-2)

@@ -1,3 +1,0 @@
-pub mod Solve
-pub mod Calls
-pub mod Meaning

@@ -1,5 +1,0 @@
-use Prim.Native.Nat.{ℕ}
-
--- how many bytes the output buffer holds: print::ROOM
-abbrev pub room : ℕ
-room = 4096

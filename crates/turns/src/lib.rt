@@ -1,2 +1,0 @@
-// The run of the conjugate gradient's turns.
-pub mod turns;
