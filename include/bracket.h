@@ -163,21 +163,26 @@ uint8_t bracket_diagonal_index(
 
 /*
  * One row of a pattern: the slot of its first block, how many blocks it has, and the column of its j-th block, whose slot is the
- * first one's and j more. Needs nothing and refuses nothing: a row that the lists don't hold, or whose bounds are not in order,
- * has no block and first slot 0. The column is BRACKET_ABSENT past the row's end.
+ * first one's and j more.
+ * Needs: row_offsets n + 1, cols B. Refuses: 1; 3; 4 if row is at n or above. Not 5: no diagonal is handed and one row is read.
+ * Accepted: *first, *len or *col is written. A row whose bounds fall, or whose end passes B, has first slot 0 and no block. The column
+ * is BRACKET_ABSENT past the row's end. What stands past n + 1 row offsets and B columns is never shown.
  */
-size_t bracket_row_first(
+uint8_t bracket_row_first(
+    size_t n,
     const uint32_t *row_offsets, size_t row_offsets_len,
     const uint32_t *cols, size_t cols_len,
-    size_t row);
-size_t bracket_row_len(
+    size_t row, size_t *first);
+uint8_t bracket_row_len(
+    size_t n,
     const uint32_t *row_offsets, size_t row_offsets_len,
     const uint32_t *cols, size_t cols_len,
-    size_t row);
-uint32_t bracket_row_col(
+    size_t row, size_t *len);
+uint8_t bracket_row_col(
+    size_t n,
     const uint32_t *row_offsets, size_t row_offsets_len,
     const uint32_t *cols, size_t cols_len,
-    size_t row, size_t j);
+    size_t row, size_t j, uint32_t *col);
 
 /*
  * Zeroes every block.

@@ -189,7 +189,8 @@ def graphs(numbers, names):
 
 def cases(seed):
     draw = random.Random(seed)
-    for word, (numbers, names, _) in text.SHAPES.items():
+    for word in text.STORED:
+        numbers, names, _ = text.SHAPES[word]
         for graph in graphs(numbers, names):
             call = calls.accepted(draw, word, graph, 1)
             yield call

@@ -53,6 +53,15 @@ def diagonal_index(call):
     return call["diagonal"][call["row"]]
 
 
+def row(call):
+    """The row's columns; none, from slot 0, where its bounds fall or pass the last row offset."""
+    first, end = call["row_offsets"][call["row"] : call["row"] + 2]
+    if not first <= end <= call["row_offsets"][call["n"]]:
+        first = end = 0
+    call["shown"] = call["cols"][first:end]
+    return first
+
+
 def clear_values(call):
     need = rules.needs(call)["blocks"]
     call["blocks"][:need] = [0.0] * need
@@ -87,4 +96,5 @@ WORK = {
     "clear_values": clear_values,
     "mul": mul,
     "make_dirichlet": make_dirichlet,
+    "row": row,
 }

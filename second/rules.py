@@ -71,7 +71,8 @@ def outside(call):
 
 
 def misformed(call):
-    return "pairs" not in call and "row_offsets" in call and not well_formed(call)
+    """A pattern is tested where its three lists are handed in; a row alone is shown without its diagonal."""
+    return "pairs" not in call and "diagonal" in call and not well_formed(call)
 
 
 def well_formed(call):

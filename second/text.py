@@ -26,6 +26,7 @@ SHAPES = {
     "clear_values": (["n"], [*PATTERN, "blocks"], ["blocks"]),
     "mul": (["n"], [*PATTERN, "blocks", "x", "out"], ["out"]),
     "make_dirichlet": (["n", "row"], [*PATTERN, "blocks"], ["blocks"]),
+    "row": (["n", "row"], PATTERN[:2], ["shown"]),
     "plan": (["n"], [*PATTERN, *PLAN, *WORK], [*PLAN, *WORK]),
     "factorize": (["n"], [*PATTERN, "blocks", *PLAN, "values"], ["values"]),
     "solve": (["n"], [*PLAN, "values", "b", "x", "scratch"], ["x", "scratch"]),
@@ -35,6 +36,9 @@ SHAPES = {
     "solve_step": (SETTINGS, [*MODEL, "b", *STEPPED], [*STEPPED, *TOLD]),
     "response_into": ([*SETTINGS, "entries"], [*MODEL, "pinned", "particles", "gradients", *RESPONDED], [*RESPONDED, *TOLD]),
 }
+
+# Rows have no stored cases: the comparison draws them.
+STORED = [word for word in SHAPES if word != "row"]
 
 
 def lists(call):

@@ -36,6 +36,24 @@ static void read_plans(void) {
     EXPECT(same(m.row_start, (const uint32_t[]){0, 1, 3, 6, 10, 13, 17}, 7));
 }
 
+/* Rows of two particles and their pair, in lists that are longer than needed. */
+static void read_row(const struct model *m) {
+    const uint32_t *starts = m->row_offsets, *cols = m->cols;
+    size_t first = 7, len = 7;
+    uint32_t col = 7;
+    EXPECT(bracket_row_first(2, LENT(m->row_offsets), LENT(m->cols), 2, &first) == BRACKET_OUT_OF_RANGE);
+    EXPECT(bracket_row_len(2, LENT(m->row_offsets), LENT(m->cols), SIZE_MAX, &len) == BRACKET_OUT_OF_RANGE);
+    EXPECT(bracket_row_col(2, starts, 3, cols, 3, 2, 0, &col) == BRACKET_SHORT_BUFFER);
+    EXPECT(bracket_row_col(2, starts, 2, cols, 4, 2, 0, &col) == BRACKET_SHORT_BUFFER);
+    EXPECT(bracket_row_first(1025, starts, 0, cols, 0, 1025, &first) == BRACKET_TOO_MANY_PARTICLES);
+    EXPECT(first == 7 && len == 7 && col == 7);
+    EXPECT(bracket_row_first(2, LENT(m->row_offsets), LENT(m->cols), 1, &first) == 0 && first == 2);
+    EXPECT(bracket_row_len(2, LENT(m->row_offsets), LENT(m->cols), 1, &len) == 0 && len == 2);
+    EXPECT(bracket_row_col(2, starts, 3, cols, 4, 1, 0, &col) == 0 && col == 0);
+    EXPECT(bracket_row_col(2, starts, 3, cols, 4, 1, 1, &col) == 0 && col == 1);
+    EXPECT(bracket_row_col(2, LENT(m->row_offsets), LENT(m->cols), 1, 2, &col) == 0 && col == BRACKET_ABSENT);
+}
+
 static void read_patterns(void) {
     const uint32_t repeats[] = {0, 1, 1, 0, 0, 1, 1, 1}, ghost[] = {9, 9}, outside[] = {0, 2};
     struct model m;
@@ -53,12 +71,7 @@ static void read_patterns(void) {
     EXPECT(bracket_block_index(2, PATTERN(&m), 0, 5, &slot) == 0 && slot == BRACKET_ABSENT);
     EXPECT(bracket_diagonal_index(2, PATTERN(&m), 1, &slot) == 0 && slot == 3);
     EXPECT(bracket_diagonal_index(2, PATTERN(&m), 2, &slot) == BRACKET_OUT_OF_RANGE && slot == 3);
-    EXPECT(bracket_row_first(LENT(m.row_offsets), LENT(m.cols), 1) == 2);
-    EXPECT(bracket_row_len(LENT(m.row_offsets), LENT(m.cols), 1) == 2);
-    EXPECT(bracket_row_col(LENT(m.row_offsets), LENT(m.cols), 1, 0) == 0);
-    EXPECT(bracket_row_col(LENT(m.row_offsets), LENT(m.cols), 1, 1) == 1);
-    EXPECT(bracket_row_col(LENT(m.row_offsets), LENT(m.cols), 1, 2) == BRACKET_ABSENT);
-    EXPECT(bracket_row_len(LENT(m.row_offsets), LENT(m.cols), SIZE_MAX) == 0);
+    read_row(&m);
 }
 
 static void read_factors(void) {

@@ -42,16 +42,25 @@ pub fn same(operation: Operation, a: &Left, b: &Left) -> bool {
     a.refused == b.refused && a.number == b.number && same_failure && same_lists
 }
 
+/// Holds the proved call against the Rust's, and hands back what the Rust leaves. What only the oracle's
+/// reading of the Rust's loop tells is taken for true only where that reading is the Rust's: asked last, so
+/// that it is the proved answer that shows a wrong Rust.
+pub fn beside_rust(judged: &mut Judged, call: &Call) -> Left {
+    let (proved, rust) = (doors::left(call), blocks::left(call));
+    let alike = same(call.operation, &proved, &rust);
+    judged.count(alike, || [call.line(), proved.line(call), rust.line(call)]);
+    let misread = alike && rust.misread;
+    assert!(!misread, "the reading isn't the Rust's: {}", call.line());
+    rust
+}
+
 fn compare_whole(draw: &mut Draw, operation: Operation) -> usize {
     let mut judged = Judged::new(operation.word());
     for (turns, most) in SIZES {
         for turn in 0..turns {
             let graph = graphs::drawn(draw, turn, most);
             let call = accepted(draw, operation, &graph, turn);
-            let (proved, rust) = (doors::left(&call), blocks::left(&call));
-            judged.count(same(operation, &proved, &rust), || {
-                [call.line(), proved.line(&call), rust.line(&call)]
-            });
+            beside_rust(&mut judged, &call);
         }
     }
     judged.close(", accepted, every list to its end")
@@ -79,10 +88,12 @@ fn compare_damaged(draw: &mut Draw) -> usize {
 pub fn beside_second(word: &'static str, calls: Vec<Call>) -> usize {
     let answers = match second::answers(calls.iter().map(Call::line).collect()) {
         Ok(answers) => answers,
-        Err(problem) => {
+        // compare/run has said that python3 is missing; anything else is a fault.
+        Err(problem) if problem.kind() == std::io::ErrorKind::NotFound => {
             println!("{word}: not compared, since the second program did not run ({problem})");
             return 0;
         }
+        Err(problem) => panic!("the second program: {problem}"),
     };
     assert_eq!(
         answers.len(),

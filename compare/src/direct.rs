@@ -1,19 +1,22 @@
 //! The direct solve: matrices and factors of every kind held against the Rust, some and damaged calls
 //! against the second program, and times.
 
-use crate::calls::{beside_second, same};
+use crate::calls::{beside_rust, beside_second};
 use crate::damage::damage;
 use crate::judge::Judged;
 use crate::proved::PROVED;
 use crate::times::{by_turns, micros, told};
 use crate::{doors, inside};
-use oracle::blocks::{self, vectors, Blocks};
+use oracle::blocks::{vectors, Blocks};
 use oracle::call::{Call, Left};
 use oracle::direct::Direct;
 use oracle::draw::Draw;
 use oracle::graphs;
 use oracle::plan::ENVELOPE;
-use oracle::systems::{factorize, solve, System, FACTORS, MATRICES, PLANS};
+use oracle::systems::{
+    factorize, solve, stiff, stiff_factor, Factor, System, FACTORS, MATRICES, PLANS,
+};
+use oracle::values;
 use std::hint::black_box;
 
 /// How many systems of at most so many particles each kind of matrix has, and each kind of factor.
@@ -32,15 +35,6 @@ const DAMAGED_PAST: usize = 5;
 
 pub fn compare(draw: &mut Draw) -> usize {
     compare_factorize(draw) + compare_solve(draw) + compare_second(draw)
-}
-
-/// Holds the proved call against the Rust's, and hands back what the Rust leaves.
-fn judge(judged: &mut Judged, call: &Call) -> Left {
-    let (proved, rust) = (doors::left(call), blocks::left(call));
-    judged.count(same(call.operation, &proved, &rust), || {
-        [call.line(), proved.line(call), rust.line(call)]
-    });
-    rust
 }
 
 /// "a: 1, b: 2".
@@ -130,12 +124,12 @@ fn compare_factorize(draw: &mut Draw) -> usize {
                 let system = System::drawn(draw, most);
                 met.plans[system.plan_kind] += 1;
                 let call = factorize(draw, kind, system);
-                met.count(at, &call, &judge(&mut judged, &call));
+                met.count(at, &call, &beside_rust(&mut judged, &call));
             }
         }
         for entries in ENVELOPE..=ENVELOPE + PAST {
             let call = factorize(draw, kind, System::of_entries(entries));
-            met.count(at, &call, &judge(&mut judged, &call));
+            met.count(at, &call, &beside_rust(&mut judged, &call));
         }
     }
     let kinds = MATRICES.map(|(name, _)| name).join("; ");
@@ -157,7 +151,7 @@ fn compare_solve(draw: &mut Draw) -> usize {
                 let system = System::drawn(draw, most);
                 plans[system.plan_kind] += 1;
                 let call = solve(draw, kind, system);
-                let left = judge(&mut judged, &call);
+                let left = beside_rust(&mut judged, &call);
                 let mut x = left.lists[0][..2 * call.n()].iter();
                 finite += usize::from(x.all(|&x| f32::from_bits(x).is_finite()));
                 refused += usize::from(left.refused > 0);
@@ -165,7 +159,7 @@ fn compare_solve(draw: &mut Draw) -> usize {
         }
         for entries in ENVELOPE..=ENVELOPE + PAST {
             let call = solve(draw, kind, System::of_entries(entries));
-            refused += usize::from(judge(&mut judged, &call).refused > 0);
+            refused += usize::from(beside_rust(&mut judged, &call).refused > 0);
         }
     }
     let kinds = FACTORS.map(|(name, _)| name).join("; ");
@@ -228,6 +222,8 @@ fn exact(mut call: Call) -> Call {
     call
 }
 
+/// Ordinary numbers: springs, whose factor and solutions stay far above the smallest normal number. What
+/// subnormal ones cost is told apart, for both sides.
 pub fn times(draw: &mut Draw) {
     println!("times of factorize and solve: door/Rust inner/Rust (Rust's microseconds); of factorize without its roots inner/Rust");
     for (name, graph) in [
@@ -237,11 +233,26 @@ pub fn times(draw: &mut Draw) {
         ("complete 90", graphs::complete(90)),
     ] {
         let system = System::new(draw, &graph, 0);
-        let factored = times_factorize(exact(factorize(draw, MATRICES[0], system)));
-        let system = System::new(draw, &graph, 0);
-        let solved = times_solve(exact(solve(draw, FACTORS[0], system)));
-        println!("{name}: factorize {factored}; solve {solved}");
+        let call = exact(factorize(draw, ("stiff", stiff), system.clone()));
+        let factored = times_factorize(call);
+        let [solved, subnormal] = SOLVES.map(|(factor, turn)| {
+            let mut call = exact(solve(draw, factor, system.clone()));
+            call.lists[5] = values::drawn(draw, turn, 2 * graph.n);
+            assert_eq!(turn != 0, sinks(&call), "subnormals are timed apart");
+            times_solve(call)
+        });
+        println!("{name}: factorize {factored}; solve {solved}; solve of subnormals {subnormal}");
     }
+}
+
+/// The factors, and which values make up b: ordinary ones by springs, and subnormals that stay so.
+const SOLVES: [(Factor, usize); 2] = [(("stiff", stiff_factor), 0), (FACTORS[0], 5)];
+
+/// A number of the factor, of b or of the solution is subnormal.
+fn sinks(call: &Call) -> bool {
+    let left = doors::left(call);
+    let mut numbers = call.lists[4..6].iter().chain(&left.lists).flatten();
+    numbers.any(|&bits| f32::from_bits(bits).is_subnormal())
 }
 
 /// The pivots whose roots a factor's diagonal holds, nearly.

@@ -1,13 +1,13 @@
 //! The conjugate gradient: updates of the preconditioner and solves held against the Rust and the
 //! oracle's reading of its loop, some and damaged calls against the second program, and times.
 
-use crate::calls::{beside_second, same};
+use crate::calls::{beside_rust, beside_second};
 use crate::damage::damage;
 use crate::ends::Ends;
 use crate::judge::Judged;
 use crate::times::{by_turns, matrix, told};
 use crate::{doors, endings, inside};
-use oracle::blocks::{self, vectors};
+use oracle::blocks::vectors;
 use oracle::call::{Call, Operation};
 use oracle::draw::Draw;
 use oracle::gradient::Gradient;
@@ -33,19 +33,12 @@ pub fn compare(draw: &mut Draw) -> usize {
     compare_updates(draw) + compare_solves(draw) + compare_second(draw)
 }
 
-fn judge(judged: &mut Judged, call: &Call) {
-    let (proved, rust) = (doors::left(call), blocks::left(call));
-    judged.count(same(call.operation, &proved, &rust), || {
-        [call.line(), proved.line(call), rust.line(call)]
-    });
-}
-
 fn compare_updates(draw: &mut Draw) -> usize {
     let mut judged = Judged::new("update_preconditioner");
     for (turns, most) in UPDATES {
         for turn in 0..turns {
             let graph = graphs::drawn(draw, turn, most);
-            judge(&mut judged, &solves::update(draw, turn, &graph));
+            beside_rust(&mut judged, &solves::update(draw, turn, &graph));
         }
     }
     judged.close(", accepted, every list to its end")
@@ -57,14 +50,14 @@ fn compare_solves(draw: &mut Draw) -> usize {
         for turn in 0..turns {
             let graph = graphs::drawn(draw, turn, most);
             let call = solves::drawn(draw, turn, &graph);
-            judge(&mut judged, &call);
+            beside_rust(&mut judged, &call);
             ends.count(&call);
         }
     }
     for graph in [graphs::chain(1024), graphs::grid(32, 32), graphs::hub(1024)] {
         for limit in LONG {
             let call = solves::slow(draw, &graph, limit);
-            judge(&mut judged, &call);
+            beside_rust(&mut judged, &call);
             ends.count(&call);
         }
     }

@@ -1,13 +1,13 @@
 //! Planning: graphs of every kind held against the Rust, some and damaged calls against the second
 //! program, and times.
 
-use crate::calls::{beside_second, same};
+use crate::calls::{beside_rust, beside_second};
 use crate::damage::damage;
 use crate::judge::Judged;
 use crate::starts::{reading, Reading};
 use crate::times::{by_turns, exact, micros, told};
 use crate::{doors, inside};
-use oracle::blocks::{self, Blocks};
+use oracle::blocks::Blocks;
 use oracle::call::{Call, Operation};
 use oracle::calls::accepted;
 use oracle::draw::Draw;
@@ -106,10 +106,7 @@ impl Met {
 /// Judges one graph's plan, and hands back how often its start would move.
 fn judge(draw: &mut Draw, judged: &mut Judged, met: &mut Met, graph: &Graph) -> usize {
     let call = call(draw, graph);
-    let (proved, rust) = (doors::left(&call), blocks::left(&call));
-    judged.count(same(call.operation, &proved, &rust), || {
-        [call.line(), proved.line(&call), rust.line(&call)]
-    });
+    beside_rust(judged, &call);
     let read = reading(graph.n, &call.lists[0], &call.lists[1]);
     met.count(graph.n, &read, limits::envelope(graph));
     read.moves

@@ -1,13 +1,11 @@
 //! The step's calls: both routes, with marks, factors and preconditioners as they may stand, held against the
 //! Rust and the oracle's reading of the loop, some and damaged calls against the second program.
 
-use crate::calls::{beside_second, same};
+use crate::calls::{beside_rust, beside_second};
 use crate::damage::damage;
-use crate::doors;
 use crate::gradients::damage_settings;
 use crate::judge::Judged;
 use crate::met::Met;
-use oracle::blocks;
 use oracle::call::{Call, Operation, STEP};
 use oracle::draw::Draw;
 use oracle::plan::ENVELOPE;
@@ -28,13 +26,13 @@ const WHOLE: (usize, usize) = (500, 5);
 const DAMAGED: (usize, usize) = (2500, 5);
 
 pub fn compare(draw: &mut Draw) -> usize {
-    let marked = beside_rust(draw, "factorize_step_matrix", STEP[0], MARKED);
-    let solved = beside_rust(draw, "solve_step", STEP[1], SOLVED);
-    let responded = beside_rust(draw, "response_into", STEP[2], RESPONDED);
+    let marked = judged(draw, "factorize_step_matrix", STEP[0], MARKED);
+    let solved = judged(draw, "solve_step", STEP[1], SOLVED);
+    let responded = judged(draw, "response_into", STEP[2], RESPONDED);
     marked + solved + responded + compare_second(draw)
 }
 
-fn beside_rust(
+fn judged(
     draw: &mut Draw,
     word: &'static str,
     operation: Operation,
@@ -42,11 +40,7 @@ fn beside_rust(
 ) -> usize {
     let (mut judged, mut met) = (Judged::new(word), Met::default());
     let mut judge = |call: Call| {
-        let (proved, rust) = (doors::left(&call), blocks::left(&call));
-        judged.count(same(operation, &proved, &rust), || {
-            [call.line(), proved.line(&call), rust.line(&call)]
-        });
-        met.count(&call, &rust);
+        met.count(&call, &beside_rust(&mut judged, &call));
     };
     for (turns, most) in sizes {
         for turn in 0..turns {

@@ -35,6 +35,11 @@ fn whole(draw: &mut Draw, turn: usize) -> Asked {
     let operation = [Operation::SolveStep, Operation::ResponseInto][turn % 2];
     let call = drawn(draw, operation, turn, system);
     let left = blocks::left(&call);
+    assert!(
+        !left.misread,
+        "the reading isn't the Rust's: {}",
+        call.line()
+    );
     let how = left.lists[left.lists.len() - 2][0] as usize;
     Asked {
         pinned: marks(&call),

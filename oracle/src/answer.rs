@@ -16,8 +16,18 @@ pub fn answer(line: &str) -> Option<String> {
         "times" => read_floats(tokens).map(|given| answer_line(&times(given))),
         "determinant" => read_floats(tokens).map(|given| answer_line(&[determinant(given)])),
         "inverse" => read_floats(tokens).map(|given| answer_line(&inverse(given))),
-        _ => Call::read(operation, tokens).map(|call| blocks::left(&call).line(&call)),
+        _ => Call::read(operation, tokens).map(|call| call_line(&call)),
     }
+}
+
+fn call_line(call: &Call) -> String {
+    let left = blocks::left(call);
+    assert!(
+        !left.misread,
+        "the reading isn't the Rust's: {}",
+        call.line()
+    );
+    left.line(call)
 }
 
 /// The square root as the source takes it.

@@ -297,4 +297,7 @@ pub struct Left {
     pub failed: Option<(usize, u32)>,
     pub number: Option<usize>,
     pub lists: Vec<Vec<u32>>,
+    /// The oracle's own reading of the Rust's loop came to something else than the Rust: what only that
+    /// reading tells is worth nothing then.
+    pub misread: bool,
 }

@@ -72,11 +72,11 @@ pub fn factorized(call: &Call, matrix: &Blocks) -> Left {
     let mut direct = Direct::from_lists(call.n(), plan, &[]);
     let factored = direct.factorize(matrix);
     let failed = direct.failure(matrix);
-    assert_eq!(factored, failed.is_none(), "a row fails if the Rust does");
     let values = direct.values();
     Left {
         failed: failed.map(|(row, pivot)| (row, pivot.to_bits())),
         lists: vec![over(&call.lists[8], &values, values.len())],
+        misread: factored != failed.is_none(),
         ..Left::default()
     }
 }

@@ -5,7 +5,7 @@ use crate::call::{Call, Operation};
 use crate::calls::lengthen;
 use crate::draw::Draw;
 use crate::solves::{self, bits};
-use crate::systems::{dominant, System, FACTORS, MATRICES};
+use crate::systems::{dominant, stiff, System, FACTORS, MATRICES};
 
 /// The most entries of a response.
 const ENTRIES: usize = 16;
@@ -204,9 +204,9 @@ pub fn drawn(draw: &mut Draw, operation: Operation, turn: usize, mut system: Sys
     call
 }
 
-/// By a whole factor, with four entries and nothing pinned, in lists that are no longer than they must be.
+/// By a whole factor of springs, with four entries and nothing pinned, in lists that are no longer than they must be.
 pub fn direct(draw: &mut Draw, operation: Operation, mut system: System) -> Call {
-    dominant(draw, &mut system);
+    stiff(draw, &mut system);
     let n = system.n;
     let given = Given {
         settings: settings(draw),

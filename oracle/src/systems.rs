@@ -254,6 +254,31 @@ pub(crate) fn dominant(draw: &mut Draw, system: &mut System) {
     }
 }
 
+/// Springs of one stiffness along the pairs, which couple the axes, and a weak one that holds each particle
+/// at its place. A push at one end of a long chain is still felt at the other: nothing sinks into subnormals.
+pub fn stiff(_: &mut Draw, system: &mut System) {
+    const SPRING: [f32; 4] = [1.0, 0.25, 0.25, 1.0];
+    const HOLD: f32 = 1.0 / 1024.0;
+    for row in 0..system.n {
+        let others = system.slots(row).len() - 1;
+        for slot in system.slots(row) {
+            let own = system.pattern[1][slot] as usize == row;
+            let stiffness = if own { others as f32 } else { -1.0 };
+            let block = SPRING.map(|entry| entry * stiffness);
+            system.blocks[4 * slot..4 * slot + 4].copy_from_slice(&block);
+        }
+        for d in [0, 1] {
+            let corner = system.corner(row, d);
+            system.blocks[corner] += HOLD;
+        }
+    }
+}
+
+/// Their factor.
+pub fn stiff_factor(draw: &mut Draw, system: &mut System) -> Vec<u32> {
+    factored(draw, system, stiff)
+}
+
 /// A diagonal that may be too small by a little, so that any row may fail.
 fn nearly(draw: &mut Draw, system: &mut System) {
     dominant(draw, system);

@@ -94,16 +94,25 @@ impl BlockMatrix {
         Ok(slot)
     }
 
-    /// Hands each block of the row to `f`, with its column, columns rising. A row at `num_rows` or above has none.
-    pub fn for_each_block_of_row(&self, row: u32, mut f: impl FnMut(u32, &Matrix)) {
-        let (starts, cols, row) = (&self.row_offsets, &self.cols, row as usize);
-        let first = sys::bracket_row_first(starts, cols, row);
-        for j in 0..sys::bracket_row_len(starts, cols, row) {
-            f(
-                sys::bracket_row_col(starts, cols, row, j),
-                &self.blocks[first + j],
-            );
+    /// Hands each block of the row to `f`, with its column, columns rising. A refused call hands on none.
+    pub fn for_each_block_of_row(
+        &self,
+        row: u32,
+        mut f: impl FnMut(u32, &Matrix),
+    ) -> Result<(), Refusal> {
+        let (n, starts, cols, row) = (self.num_rows(), &self.row_offsets, &self.cols, row as usize);
+        if self.blocks.len() < cols.len() {
+            return Err(Refusal::ShortBuffer);
         }
+        let (mut first, mut len) = (0, 0);
+        accepted(sys::bracket_row_first(n, starts, cols, row, &mut first))?;
+        accepted(sys::bracket_row_len(n, starts, cols, row, &mut len))?;
+        for j in 0..len {
+            let mut col = u32::MAX;
+            accepted(sys::bracket_row_col(n, starts, cols, row, j, &mut col))?;
+            f(col, &self.blocks[first + j]);
+        }
+        Ok(())
     }
 
     pub fn clear_values(&mut self) -> Result<(), Refusal> {

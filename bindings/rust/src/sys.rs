@@ -69,9 +69,15 @@ calls! {
     fn bracket_diagonal_index(
         n: usize, row_offsets: &[u32], cols: &[u32], diagonal: &[u32], row: usize, slot: &mut u32
     ) -> u8;
-    fn bracket_row_first(row_offsets: &[u32], cols: &[u32], row: usize) -> usize;
-    fn bracket_row_len(row_offsets: &[u32], cols: &[u32], row: usize) -> usize;
-    fn bracket_row_col(row_offsets: &[u32], cols: &[u32], row: usize, j: usize) -> u32;
+    fn bracket_row_first(
+        n: usize, row_offsets: &[u32], cols: &[u32], row: usize, first: &mut usize
+    ) -> u8;
+    fn bracket_row_len(
+        n: usize, row_offsets: &[u32], cols: &[u32], row: usize, len: &mut usize
+    ) -> u8;
+    fn bracket_row_col(
+        n: usize, row_offsets: &[u32], cols: &[u32], row: usize, j: usize, col: &mut u32
+    ) -> u8;
     fn bracket_clear_values(
         n: usize, row_offsets: &[u32], cols: &[u32], diagonal: &[u32], blocks: &mut [f32]
     ) -> u8;

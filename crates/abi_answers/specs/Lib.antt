@@ -1,3 +1,5 @@
+pub mod Telling
 pub mod Numbers
 pub mod Told
 pub mod Direct
+pub mod Row

@@ -3,7 +3,8 @@ use gradient_definition::Outcome;
 use gradient_doors::Solved;
 use gradient_doors::Updated;
 ghost use mathlib.Core.Path.{_≡_};
-ghost use Rattle.abi_answers.specs.Told.{updatedNumber, solvedNumber, places, placesOf, toldOf};
+ghost use Rattle.abi_answers.specs.Telling.{places};
+ghost use Rattle.abi_answers.specs.Told.{updatedNumber, solvedNumber, placesOf, toldOf};
 
 pub struct Places {
     pub how: u32,

@@ -2,7 +2,9 @@
 use factor_doors::Factored;
 use factor_doors::Solved;
 ghost use mathlib.Core.Path.{_≡_};
-ghost use Rattle.abi_answers.specs.Direct.{factoredNumber, solvedNumber, howOf, rowOf, pivotOf};
+ghost use Rattle.factor_doors.specs.Said.{factoredSaid};
+ghost use Rattle.abi_answers.specs.Telling.{howBy, wholeBy, floatBy};
+ghost use Rattle.abi_answers.specs.Direct.{factoredNumber, solvedNumber};
 
 pub fn factored_number(f: Factored) -> u8
     ensures { λ r. ⌜ r ≡ factoredNumber f ⌝ }
@@ -15,7 +17,7 @@ pub fn factored_number(f: Factored) -> u8
 }
 
 pub fn factored_how(f: Factored, old: u32) -> u32
-    ensures { λ r. ⌜ r ≡ howOf f old ⌝ }
+    ensures { λ r. ⌜ r ≡ howBy (factoredSaid f) old ⌝ }
 {
     match f {
         Factored::Refused(_) => old,
@@ -25,7 +27,7 @@ pub fn factored_how(f: Factored, old: u32) -> u32
 }
 
 pub fn failed_row(f: Factored, old: usize) -> usize
-    ensures { λ r. ⌜ r ≡ rowOf f old ⌝ }
+    ensures { λ r. ⌜ r ≡ wholeBy (factoredSaid f) old ⌝ }
 {
     match f {
         Factored::Refused(_) => old,
@@ -35,7 +37,7 @@ pub fn failed_row(f: Factored, old: usize) -> usize
 }
 
 pub fn failed_pivot(f: Factored, old: f32) -> f32
-    ensures { λ r. ⌜ r ≡ pivotOf f old ⌝ }
+    ensures { λ r. ⌜ r ≡ floatBy (factoredSaid f) old ⌝ }
 {
     match f {
         Factored::Refused(_) => old,

@@ -3,3 +3,4 @@ pub mod built;
 pub mod ended;
 pub mod factored;
 pub mod planned;
+pub mod row;

@@ -6,7 +6,8 @@ use abi_answers::ended::updated_number;
 ghost use Rattle.gradient_doors.specs.Updating as updating;
 ghost use Rattle.gradient_doors.specs.Solving as solving;
 ghost use Rattle.abi_answers.specs.Numbers.{Numbered, Told};
-ghost use Rattle.abi_answers.specs.Told.{updatedNumber, solvedNumber, places, placesOf};
+ghost use Rattle.abi_answers.specs.Telling.{places};
+ghost use Rattle.abi_answers.specs.Told.{updatedNumber, solvedNumber, placesOf};
 
 #[no_mangle]
 pub extern "C" fn bracket_update_preconditioner(

@@ -1,28 +1,68 @@
-// One row, as the view shows it: what a caller in C has in place of `for_each_block_of_row`. Total: a row that the lists don't hold is empty.
-ghost use mathlib.Core.Path.{_≡_};
-ghost use lib.ListN.{length};
-ghost use Rattle.matrix_row_view.specs.Row.{rowFirst, rowCols, colOr};
+// One row, shown: what a caller in C has in place of `for_each_block_of_row`. Each answers the refusal's number, or 0; acceptance writes the lent
+// place, and a refusal leaves it.
+use abi_answers::row::seen_col;
+use abi_answers::row::seen_number;
+use abi_answers::row::spanned_first;
+use abi_answers::row::spanned_len;
+use abi_answers::row::spanned_number;
+ghost use Rattle.matrix_row_view.specs.Showing as showing;
+ghost use Rattle.abi_answers.specs.Numbers.{Told};
+ghost use Rattle.abi_answers.specs.Row.{spannedNumber, spannedFirst, spannedLen, seenNumber, seenCol};
 
 // The slot of the row's first block.
 #[no_mangle]
-pub extern "C" fn bracket_row_first(row_offsets: &[u32], cols: &[u32], row: usize) -> usize
-    ensures { λ r. ⌜ r ≡ rowFirst (now («row_offsets» .entry)) (now (cols .entry)) row ⌝ }
+pub extern "C" fn bracket_row_first(
+    n: usize,
+    row_offsets: &[u32],
+    cols: &[u32],
+    row: usize,
+    first: &mut usize,
+) -> u8
+    ensures { λ r. ⌜
+        Told showing.spanDoor (λ o. o .answer) spannedNumber spannedFirst
+        (showing.given n (now («row_offsets» .entry)) (now (cols .entry)) row)
+        r showing.spanned (now (first .entry)) (now (first .exit)) ⌝ }
 {
-    matrix_row_view::row::row_first(row_offsets, cols, row)
+    let s = matrix_row_view::row_span(n, row_offsets, cols, row);
+    *first = spanned_first(s, *first);
+    spanned_number(s)
 }
 
 // How many blocks the row has.
 #[no_mangle]
-pub extern "C" fn bracket_row_len(row_offsets: &[u32], cols: &[u32], row: usize) -> usize
-    ensures { λ r. ⌜ r ≡ length (rowCols (now («row_offsets» .entry)) (now (cols .entry)) row) ⌝ }
+pub extern "C" fn bracket_row_len(
+    n: usize,
+    row_offsets: &[u32],
+    cols: &[u32],
+    row: usize,
+    len: &mut usize,
+) -> u8
+    ensures { λ r. ⌜
+        Told showing.spanDoor (λ o. o .answer) spannedNumber spannedLen
+        (showing.given n (now («row_offsets» .entry)) (now (cols .entry)) row)
+        r showing.spanned (now (len .entry)) (now (len .exit)) ⌝ }
 {
-    matrix_row_view::row::row_len(row_offsets, cols, row)
+    let s = matrix_row_view::row_span(n, row_offsets, cols, row);
+    *len = spanned_len(s, *len);
+    spanned_number(s)
 }
 
 // The column of the row's j-th block, 4294967295 past its end.
 #[no_mangle]
-pub extern "C" fn bracket_row_col(row_offsets: &[u32], cols: &[u32], row: usize, j: usize) -> u32
-    ensures { λ r. ⌜ r ≡ colOr (rowCols (now («row_offsets» .entry)) (now (cols .entry)) row) j ⌝ }
+pub extern "C" fn bracket_row_col(
+    n: usize,
+    row_offsets: &[u32],
+    cols: &[u32],
+    row: usize,
+    j: usize,
+    col: &mut u32,
+) -> u8
+    ensures { λ r. ⌜
+        Told (showing.columnDoor j) (λ o. o .answer) seenNumber seenCol
+        (showing.given n (now («row_offsets» .entry)) (now (cols .entry)) row)
+        r showing.seen (now (col .entry)) (now (col .exit)) ⌝ }
 {
-    matrix_row_view::row::row_col(row_offsets, cols, row, j)
+    let s = matrix_row_view::row_col(n, row_offsets, cols, row, j);
+    *col = seen_col(s, *col);
+    seen_number(s)
 }

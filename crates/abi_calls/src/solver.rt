@@ -7,7 +7,8 @@ use abi_answers::factored::solved_number;
 ghost use Rattle.factor_doors.specs.Factorizing as factorizing;
 ghost use Rattle.factor_doors.specs.Solving as solving;
 ghost use Rattle.abi_answers.specs.Numbers.{Numbered, Told};
-ghost use Rattle.abi_answers.specs.Direct.{factoredNumber, solvedNumber, places, placesOf};
+ghost use Rattle.abi_answers.specs.Telling.{factor};
+ghost use Rattle.abi_answers.specs.Direct.{factoredNumber, solvedNumber, placesOf};
 
 // Accepted, how is 0 for a whole factor and 1 for a failure; row and pivot are written by a failure alone.
 #[no_mangle]
@@ -31,8 +32,8 @@ pub extern "C" fn bracket_factorize(
         (factorizing.given n (now («row_offsets» .entry)) (now (cols .entry)) (now (diagonal .entry)) (now (blocks .entry)) (now (perm .entry))
         (now («inv_perm» .entry)) (now (first .entry)) (now («row_start» .entry)) (now (values .entry)))
         r (λ a. factorizing.left a (now (values .exit)))
-        (places (now (how .entry)) (now (row .entry)) (now (pivot .entry)))
-        (places (now (how .exit)) (now (row .exit)) (now (pivot .exit))) ⌝ }
+        (factor (now (how .entry)) (now (row .entry)) (now (pivot .entry)))
+        (factor (now (how .exit)) (now (row .exit)) (now (pivot .exit))) ⌝ }
 {
     let f = factor_doors::factorize(
         n,

@@ -5,6 +5,7 @@ use mathlib.Core.Path.{_≡_, sym, ap, _∙_}
 use mathlib.Core.List.{List, [], _∷_}
 use lib.ListN.{getD}
 use Rattle.law.specs.Promise.{Door, Promise, outcome, Counted}
+use Rattle.law.specs.One.{One, comes-so}
 use Rattle.step_tally.specs.declared.Asked.{Asked}
 use Rattle.step_tally.specs.declared.Tally.{Tally}
 use Rattle.step_tally.specs.Count.{countedOf}
@@ -48,3 +49,31 @@ pub as-counted : {I O A P : Type 0} (d : Door I O) (answer : O → A) (number : 
 as-counted d answer number tells rule i r left before after old counts t =
     let lists = t .told-is .numbers .lists-are in
     (lists, ap tallyOf (t .counts-are) ∙ ap (rule (tallyOf old)) (sym lists))
+
+-- ONE OUTCOME w of such a promise: its number, its lists beside an answer, its places and its counts; `back` makes w of these
+pub of-tallied : {I O A P W : Type 0} (d : Door I O) (answer : O → A) (number : A → ℕ) (tells : A → P → P) (rule : Tally → O → Tally) (i : I)
+    (num : W → ℕ) (left : W → A → O) (before : P) (after : W → P) (old : List ℕ) (counts : W → List ℕ) (back : ℕ → O → P → List ℕ → W)
+    → ((r : ℕ) (p : P) (c : List ℕ) → left (back r (d .work i) p c) (answer (d .work i)) ≡ d .work i)
+    → ((k r : ℕ) (p : P) (c : List ℕ) → left (back r (d .refuse k i) p c) (answer (d .refuse k i)) ≡ d .refuse k i)
+    → ((r : ℕ) (o : O) (p : P) (c : List ℕ) → (num (back r o p c) ≡ r) × (after (back r o p c) ≡ p) × (counts (back r o p c) ≡ c))
+    → ((w : W) (a : A) → back (num w) (left w a) (after w) (counts w) ≡ w)
+    → One (λ (w : W). Tallied d answer number tells rule i (num w) (left w) before (after w) old (counts w))
+of-tallied {I} {O} {A} {P} {W} d answer number tells rule i num left before after old counts back works refuses parts f =
+    let o : O = outcome d i in
+    let n : ℕ = number (answer o) in
+    let p : P = tells (answer o) before in
+    let c : List ℕ = countsOf (rule (tallyOf old) o) in
+    let lists : left (back n o p c) (answer o) ≡ o =
+    comes-so d i (λ q. left (back n q p c) (answer q) ≡ q) (works n p c) (λ k. refuses k n p c) in (
+      back n o p c,
+      (
+        record {
+          told-is = record { numbers = record { number-is = parts n o p c .0; lists-are = lists }; places-are = parts n o p c .1 };
+          counts-are = parts n o p c .2;
+        },
+        λ w h. let t = h .told-is in
+            sym (f w (answer o)) ∙ ap (λ r. back r (left w (answer o)) (after w) (counts w)) (t .numbers .number-is)
+            ∙ ap (λ q. back n q (after w) (counts w)) (t .numbers .lists-are) ∙ ap (λ q. back n o q (counts w)) (t .places-are)
+            ∙ ap (back n o p) (h .counts-are),
+      ),
+    )

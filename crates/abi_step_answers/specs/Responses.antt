@@ -1,31 +1,22 @@
--- A RESPONSE OVER THE C ABI: its gain, and how its step solve ended, as `Steps` tells it; 6 where none was asked for. A refusal leaves the places.
+-- A RESPONSE OVER THE C ABI: its gain, which is the first float that it carries, and how its step
+-- solve ended, by what stands behind the gain; 6 where none was asked for. A refusal leaves the places.
 use Prim.Native.Nat.{ℕ}
 use mathlib.Core.Path.{_≡_}
+use lib.ListN.{drop}
 use lib.Ieee.{Float}
-use Rattle.law.specs.Said.{refusalOf}
+use Rattle.law.specs.Said.{Said, refused, carries, refusalOf}
 use Rattle.step_response.specs.Said.{respondedSaid}
 use Rattle.step_response.specs.declared.Responded.{Responded}
-use Rattle.step_response.specs.declared.Responded.the-variants.{Refused, Nothing, Direct, Iterated}
-use Rattle.step_response.specs.Responding.{gain}
 use Rattle.abi_answers.specs.declared.ended.Places.{Places}
-use Rattle.abi_answers.specs.Told.{toldOf}
-use Rattle.abi_step_answers.specs.Steps.{bareOf}
+use Rattle.abi_answers.specs.Telling.{floatBy, endingBy}
 
 abbrev pub respondedNumber : Responded → ℕ
 respondedNumber a = refusalOf (respondedSaid a)
 
--- what the places hold after the answer, from what they held: the gain; the ending
-abbrev pub gainOf : Responded → Float → Float
-gainOf (Refused k) old = old
-gainOf Nothing old = gain Nothing
-gainOf (Direct g) old = gain (Direct g)
-gainOf (Iterated g how) old = gain (Iterated g how)
-
-abbrev pub placesOf : Responded → Places → Places
-placesOf (Refused k) old = old
-placesOf Nothing old = bareOf 6
-placesOf (Direct g) old = bareOf 0
-placesOf (Iterated g how) old = toldOf how
+-- the same without its first float
+abbrev pub behindGain : Said → Said
+behindGain (refused k) = refused k
+behindGain (carries how counts values) = carries how counts (drop 1 values)
 
 pub record Gained : Type 0 where
   pub gain : Float
@@ -34,8 +25,12 @@ pub record Gained : Type 0 where
 abbrev pub gained : Float → Places → Gained
 gained g told = record { gain = g; told = told }
 
+abbrev pub gainedBy : Said → Gained → Gained
+gainedBy s old = gained (floatBy s (old .gain)) (endingBy (behindGain s) (old .told))
+
+-- what the places hold after the answer, from what they held
 abbrev pub gainedOf : Responded → Gained → Gained
-gainedOf a old = gained (gainOf a (old .gain)) (placesOf a (old .told))
+gainedOf a old = gainedBy (respondedSaid a) old
 
 -- both are equal
 pub same-gained : (g g' : Float) (told told' : Places) → g ≡ g' → told ≡ told' → gained g told ≡ gained g' told'

@@ -1,7 +1,9 @@
 // The step's factor: its answer, and the three places that say whether it is whole, or where it failed.
 use step_solve::Marked;
 ghost use mathlib.Core.Path.{_≡_};
-ghost use Rattle.abi_step_answers.specs.Marks.{markedNumber, howOf, rowOf, pivotOf};
+ghost use Rattle.step_solve.specs.Said.{markedSaid};
+ghost use Rattle.abi_answers.specs.Telling.{howBy, wholeBy, floatBy};
+ghost use Rattle.abi_step_answers.specs.Marks.{markedNumber};
 
 pub fn marked_number(m: Marked) -> u8
     ensures { λ r. ⌜ r ≡ markedNumber m ⌝ }
@@ -15,7 +17,7 @@ pub fn marked_number(m: Marked) -> u8
 }
 
 pub fn marked_how(m: Marked, old: u32) -> u32
-    ensures { λ r. ⌜ r ≡ howOf m old ⌝ }
+    ensures { λ r. ⌜ r ≡ howBy (markedSaid m) old ⌝ }
 {
     match m {
         Marked::Refused(_) => old,
@@ -26,7 +28,7 @@ pub fn marked_how(m: Marked, old: u32) -> u32
 }
 
 pub fn failed_row(m: Marked, old: usize) -> usize
-    ensures { λ r. ⌜ r ≡ rowOf m old ⌝ }
+    ensures { λ r. ⌜ r ≡ wholeBy (markedSaid m) old ⌝ }
 {
     match m {
         Marked::Refused(_) => old,
@@ -37,7 +39,7 @@ pub fn failed_row(m: Marked, old: usize) -> usize
 }
 
 pub fn failed_pivot(m: Marked, old: f32) -> f32
-    ensures { λ r. ⌜ r ≡ pivotOf m old ⌝ }
+    ensures { λ r. ⌜ r ≡ floatBy (markedSaid m) old ⌝ }
 {
     match m {
         Marked::Refused(_) => old,

@@ -3,7 +3,9 @@ use crate::stepped;
 use abi_answers::ended::Places;
 use step_response::Responded;
 ghost use mathlib.Core.Path.{_≡_};
-ghost use Rattle.abi_step_answers.specs.Responses.{respondedNumber, gainOf, placesOf};
+ghost use Rattle.step_response.specs.Said.{respondedSaid};
+ghost use Rattle.abi_answers.specs.Telling.{floatBy, endingBy};
+ghost use Rattle.abi_step_answers.specs.Responses.{respondedNumber, behindGain};
 
 pub fn responded_number(r: Responded) -> u8
     ensures { λ k. ⌜ k ≡ respondedNumber r ⌝ }
@@ -17,7 +19,7 @@ pub fn responded_number(r: Responded) -> u8
 }
 
 pub fn gain_after(r: Responded, old: f32) -> f32
-    ensures { λ g. ⌜ g ≡ gainOf r old ⌝ }
+    ensures { λ g. ⌜ g ≡ floatBy (respondedSaid r) old ⌝ }
 {
     match r {
         Responded::Refused(_) => old,
@@ -27,11 +29,11 @@ pub fn gain_after(r: Responded, old: f32) -> f32
     }
 }
 
-pub fn after(r: Responded, old: Places) -> Places
-    ensures { λ p. ⌜ p ≡ placesOf r old ⌝ }
+pub fn after(r: Responded, held: Places) -> Places
+    ensures { λ p. ⌜ p ≡ endingBy (behindGain (respondedSaid r)) held ⌝ }
 {
     match r {
-        Responded::Refused(_) => old,
+        Responded::Refused(_) => held,
         Responded::Nothing => stepped::bare(6),
         Responded::Direct { gain: _ } => stepped::bare(0),
         Responded::Iterated { gain: _, how } => abi_answers::ended::told(how),

@@ -3,7 +3,7 @@
 use abi_step_answers::marked;
 ghost use Rattle.step_solve.specs.Marking as marking;
 ghost use Rattle.abi_answers.specs.Numbers.{Told};
-ghost use Rattle.abi_answers.specs.Direct.{places};
+ghost use Rattle.abi_answers.specs.Telling.{factor};
 ghost use Rattle.abi_step_answers.specs.Marks.{markedNumber, placesOf};
 
 #[no_mangle]
@@ -31,8 +31,8 @@ pub extern "C" fn bracket_factorize_step_matrix(
         (now (preconditioner .entry)))
         r
         (λ a. marking.left a (now (values .exit)) (now (preconditioner .exit)))
-        (places (now (how .entry)) (now (row .entry)) (now (pivot .entry)))
-        (places (now (how .exit)) (now (row .exit)) (now (pivot .exit))) ⌝ }
+        (factor (now (how .entry)) (now (row .entry)) (now (pivot .entry)))
+        (factor (now (how .exit)) (now (row .exit)) (now (pivot .exit))) ⌝ }
 {
     let m = step_doors::factorize_step_matrix(
         n,

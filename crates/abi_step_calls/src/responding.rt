@@ -5,7 +5,7 @@ use abi_step_answers::counts;
 use abi_step_answers::responded;
 ghost use Rattle.step_response.specs.Responding as responding;
 ghost use Rattle.step_counts.specs.Counting.{afterResponse};
-ghost use Rattle.abi_answers.specs.Told.{places};
+ghost use Rattle.abi_answers.specs.Telling.{places};
 ghost use Rattle.abi_step_answers.specs.Counts.{Tallied};
 ghost use Rattle.abi_step_answers.specs.Responses.{gained, respondedNumber, gainedOf};
 

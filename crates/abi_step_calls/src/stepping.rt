@@ -5,7 +5,7 @@ use abi_step_answers::counts;
 use abi_step_answers::stepped;
 ghost use Rattle.step_solve.specs.Stepping as stepping;
 ghost use Rattle.step_counts.specs.Counting.{afterStep};
-ghost use Rattle.abi_answers.specs.Told.{places};
+ghost use Rattle.abi_answers.specs.Telling.{places};
 ghost use Rattle.abi_step_answers.specs.Counts.{Tallied};
 ghost use Rattle.abi_step_answers.specs.Steps.{steppedNumber, placesOf};
 

@@ -9,6 +9,7 @@ use Rattle.law.specs.Limit.{particles}
 use Rattle.law.specs.Promise.{by, outcome}
 use Rattle.law.specs.Refusal.{verdict}
 use Rattle.bench_text.specs.Text.{described, particleCount, pairCount, pairNumbers}
+use Rattle.bench_text.specs.Nine.{numberBy}
 use Rattle.bench_print.specs.Lines.{planText, refusedText}
 use Rattle.bench_plan.specs.Outcome.{orderBy, lengthBy, refusals, givenBy, numberFor}
 use Rattle.bench_desk.specs.Lines.{drawnText}
@@ -21,7 +22,7 @@ answerOf text = cond (described text) (drawnText (particleCount text) (pairCount
 pub answer-by : (text : List ℕ)
     → answerOf text ≡ by (numberFor text) (planText (orderBy (particleCount text) (pairCount text) (pairNumbers text))
     (lengthBy (particleCount text) (pairCount text) (pairNumbers text))) refusedText
-unfolding answerOf drawnText outcome numberFor
+unfolding answerOf drawnText outcome numberFor numberBy
 answer-by text = go (described text)
   where
     n : ℕ

@@ -1,4 +1,4 @@
 pub mod Lines
 pub mod Answer
-pub mod Printed
 pub mod Answering
+pub mod Printed

@@ -1,11 +1,7 @@
-// The bench program's whole answer to a text. THE DOOR `answer` refuses only a room that might be too short; a text's own refusal is a line that it writes.
-ghost use Rattle.law.specs.Promise.{Promise};
-ghost use Rattle.bench_desk.specs.Answering.{given, left, door};
+// The bench program's answer to a text. THE DOOR `answer` refuses by the text's own number, or writes the lines of its plan.
+ghost use Rattle.bench_desk.specs.Answering.{left, Answers};
 
 mod session;
-
-// Room for any answer: a line of 1,024 numbers and one for the envelope, ten digits to a number.
-pub const ROOM: usize = 11290;
 
 pub enum Answered {
     Refused(u8),
@@ -13,12 +9,26 @@ pub enum Answered {
     Done(usize),
 }
 
+// The lists are here, each as long as the limits ask, and nothing else.
 pub fn answer(text: &[u8], out: &mut [u8]) -> Answered
-    ensures { λ r. ⌜ Promise door (given (now (text .entry)) (now (out .entry))) (left r (now (out .exit))) ⌝ }
+    ensures { λ r. ⌜ Answers (now (text .entry)) (now (out .entry)) (left r (now (out .exit))) ⌝ }
 {
-    if out.len() < ROOM {
-        return Answered::Refused(law::refusal::SHORT_BUFFER);
-    }
-    let k = session::reply(text, out);
-    Answered::Done(k)
+    let mut numbers = [0u32; 8192];
+    let mut row_offsets = [0u32; 1025];
+    let mut cols = [0u32; 9216];
+    let mut diagonal = [0u32; 1024];
+    let mut work = [0u32; 8192];
+    let mut order = [0u32; 1024];
+    let mut first = [0u32; 2048];
+    session::answer_text(
+        text,
+        &mut numbers,
+        &mut row_offsets,
+        &mut cols,
+        &mut diagonal,
+        &mut work,
+        &mut order,
+        &mut first,
+        out,
+    )
 }

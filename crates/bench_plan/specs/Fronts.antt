@@ -21,7 +21,8 @@ use Rattle.plan_layout.specs.EachOnce.{order-lists}
 use Rattle.plan_make.specs.Plan.{Plan, four, planBy, planOf, envelopeLength}
 use Rattle.plan_make.specs.Parts.{five, Made, made, settled}
 use Rattle.plan_doors.specs.Planning as plans
-use Rattle.bench_plan.specs.Outcome.{startsBy, colsBy, orderBy, firstBy, lengthBy, given, refusals, left, work, planning}
+use Rattle.bench_text.specs.Nine.{limits}
+use Rattle.bench_plan.specs.Outcome.{startsBy, colsBy, orderBy, firstBy, lengthBy, given, later, refusals, left, work, planning}
 use Rattle.bench_plan.specs.Built.{Counted}
 use Rattle.bench_plan.specs.declared.inner.Drafted.the-variants.{Refused, Done}
 
@@ -59,12 +60,12 @@ order-long n starts cols diagonal p = order-lists n starts cols diagonal p .long
 
 module _ (n count : ℕ) (pairs : List ℕ) (g : Counted n count pairs) where
   pub gave-four : (a b c d : List ℕ) → every (pairOkAt n pairs) 0 count ≡ false → Promise planning (given n count pairs) (left (Refused 4) a b c d)
-  unfolding refusals verdict left
+  unfolding refusals limits later verdict left
   gave-four a b c d e = refuses planning (given n count pairs) 4 (rw (le-leb n particles (g .few), le-leb count pairLimit (g .few-pairs), e))
       (λ z. omega arith)
 
   last : every (pairOkAt n pairs) 0 count ≡ true → verdict (refusals (given n count pairs)) ≡ cond (leb (lengthBy n count pairs) envelope) 0 7
-  unfolding refusals verdict
+  unfolding refusals limits later verdict
   last e = rw (le-leb n particles (g .few), le-leb count pairLimit (g .few-pairs), e)
 
   -- starts, cols and diagonal are what building leaves, order and first what planning does

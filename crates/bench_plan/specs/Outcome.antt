@@ -1,20 +1,20 @@
 -- WHAT PAIRS COME TO: their pattern and its plan, or the number of a refusal; and what a text does, by its pairs.
 use Prim.Native.Nat.{ℕ, _+_, _*_}
-use mathlib.Core.Bool.{cond}
-use mathlib.Core.List.{List, [], _∷_}
+use mathlib.Core.List.{List, [], _∷_, _++_}
 use native.Mathlib.Omega.{arith}
 use lib.Dec.{leb}
 use lib.ListN.{take}
 use Rattle.law.specs.Every.{every}
-use Rattle.law.specs.Limit.{particles, pairs as pairLimit, envelope}
-use Rattle.law.specs.Number.{tooManyParticles, tooManyEntries, outOfRange, longEnvelope, badText}
-use Rattle.law.specs.Refusal.{Test, unless, Rising, verdict}
-use Rattle.law.specs.Promise.{Door, by}
+use Rattle.law.specs.Limit.{envelope}
+use Rattle.law.specs.Number.{outOfRange, longEnvelope}
+use Rattle.law.specs.Refusal.{Test, unless, Rising}
+use Rattle.law.specs.Promise.{Door}
 use Rattle.matrix_shape.specs.Made.{startsOf, colsOf}
 use Rattle.matrix_shape.specs.Rows.{at}
 use Rattle.matrix_pairs.specs.Pairs.{pairOkAt, storedBy}
 use Rattle.plan_make.specs.Plan.{planOf, envelopeLength}
-use Rattle.bench_text.specs.Text.{described, particleCount, pairCount, pairNumbers}
+use Rattle.bench_text.specs.Text.{particleCount, pairCount, pairNumbers}
+use Rattle.bench_text.specs.Nine.{limits, numberBy, outcomeBy}
 use Rattle.bench_plan.specs.declared.inner.Drafted.{Drafted}
 use Rattle.bench_plan.specs.declared.inner.Drafted.the-variants.{Refused, Done}
 
@@ -44,17 +44,19 @@ pub record In : Type 0 where
 abbrev pub given : ℕ → ℕ → List ℕ → In
 given n count pairs = record { n = n; count = count; pairs = pairs }
 
--- THE REFUSALS. 3 is no text's: the program has the room. 5 and 6 are none's either: pattern and plan are the program's own
-unfoldable pub refusals : In → List Test
-refusals i =
-    unless tooManyParticles (leb (i .n) particles)
-    ∷ unless tooManyEntries (leb (i .count) pairLimit)
-    ∷ unless outOfRange (every (pairOkAt (i .n) (i .pairs)) 0 (i .count))
+-- what is tested once the counts are within the limits
+unfoldable pub later : In → List Test
+later i =
+    unless outOfRange (every (pairOkAt (i .n) (i .pairs)) 0 (i .count))
     ∷ unless longEnvelope (leb (lengthBy (i .n) (i .count) (i .pairs)) envelope)
     ∷ []
 
+-- THE REFUSALS. 3 is no text's: the program has the room. 5 and 6 are none's either: pattern and plan are the program's own
+unfoldable pub refusals : In → List Test
+refusals i = limits (i .n) (i .count) ++ later i
+
 pub in-order : (i : In) → Rising 1 (refusals i)
-unfolding refusals
+unfolding refusals limits later
 in-order i = (omega arith, (omega arith, (omega arith, (omega arith, tt))))
 
 -- the answer, and the parts of the lists that hold pattern and plan
@@ -93,7 +95,7 @@ givenBy text = given (particleCount text) (pairCount text) (pairNumbers text)
 
 -- the number that a text is refused by, 0 for none. 9 precedes all
 unfoldable pub numberFor : List ℕ → ℕ
-numberFor text = cond (described text) (verdict (refusals (givenBy text))) badText
+numberFor text = numberBy text (refusals (givenBy text))
 
 unfoldable pub plannedFor : List ℕ → Out
-plannedFor text = by (numberFor text) (work (givenBy text)) (λ k. refuse k (givenBy text))
+plannedFor text = outcomeBy planning text (givenBy text)

@@ -1,18 +1,17 @@
 -- WHAT AN ANSWER SAYS TO THE CALLER.
 use Prim.Native.Nat.{ℕ, zero, suc, _+_, _*_, _≤_}
 use mathlib.Core.Path.{_≡_, refl, ap}
-use mathlib.Core.Bool.{Bool, true, false, cond}
 use mathlib.Core.List.{List}
 use native.Mathlib.Omega.{arith}
 use lib.ListN.{take}
 use borrow.Author.Tests.{leb-true}
-use Rattle.law.specs.Number.{badText}
 use Rattle.law.specs.Limit.{particles}
 use Rattle.law.specs.Promise.{by}
-use Rattle.law.specs.Refusal.{verdict, all-pass}
+use Rattle.law.specs.Refusal.{all-pass}
 use Rattle.matrix_shape.specs.Rows.{at}
-use Rattle.bench_text.specs.Text.{described, particleCount, pairCount, pairNumbers}
-use Rattle.bench_plan.specs.Outcome.{startsBy, colsBy, orderBy, firstBy, lengthBy, Out, refusals, in-order, left, work, refuse, givenBy}
+use Rattle.bench_text.specs.Text.{particleCount, pairCount, pairNumbers}
+use Rattle.bench_text.specs.Nine.{limits, outcomeBy, no-nine}
+use Rattle.bench_plan.specs.Outcome.{startsBy, colsBy, orderBy, firstBy, lengthBy, Out, later, refusals, in-order, left, work, refuse, givenBy}
 use Rattle.bench_plan.specs.Outcome.{numberFor, plannedFor}
 use Rattle.bench_plan.specs.declared.inner.Drafted.{Drafted}
 use Rattle.bench_plan.specs.declared.inner.Drafted.the-variants.{Refused, Done}
@@ -28,16 +27,11 @@ pub record Tells (text : List ℕ) (n len : ℕ) (starts cols order first : List
   pub order-is : take n order ≡ orderBy (particleCount text) (pairCount text) (pairNumbers text)
   pub first-are : take (2 * n) first ≡ firstBy (particleCount text) (pairCount text) (pairNumbers text)
 
--- 0 is the number of no refusal
-no-nine : (d : Bool) (v : ℕ) → cond d v badText ≡ 0 → v ≡ 0
-no-nine true v h = h
-no-nine false v h = absurd (omega arith)
-
 module _ (text starts cols order first : List ℕ) (r : Drafted) (is : left r starts cols order first ≡ plannedFor text) where
   -- whatever goes by the text's number
   module _ {A : Type 0} (a : A) (b : ℕ → A) where
     pub told-refused : (k : ℕ) → r ≡ Refused k → by (numberFor text) a b ≡ b k
-    unfolding plannedFor left work
+    unfolding plannedFor outcomeBy numberFor left work
     told-refused k e = go (numberFor text) (ap (λ (o : Out). o .answer) (rw e at is))
       where
         go : (q : ℕ) → Refused k ≡ by q (work (givenBy text)) (λ j. refuse j (givenBy text)) .answer → by q a b ≡ b k
@@ -45,14 +39,14 @@ module _ (text starts cols order first : List ℕ) (r : Drafted) (is : left r st
         go (suc q) x = let s : suc q ≡ k = cc in ap b s
 
   pub told-done : (n len : ℕ) → r ≡ Done n len → Tells text n len starts cols order first
-  unfolding plannedFor left work numberFor refusals
+  unfolding plannedFor outcomeBy left work numberFor refusals limits later
   told-done n len e =
       let t = go (numberFor text) (rw e at is) in
       let a : Done n len ≡ Done (particleCount text) (lengthBy (particleCount text) (pairCount text) (pairNumbers text)) = ap (λ (o : Out). o .answer)
       (t .1) in
       let same : n ≡ particleCount text = cc in
       let f = all-pass 1 (refusals (givenBy text)) (omega arith) (in-order (givenBy text))
-      (no-nine (described text) (verdict (refusals (givenBy text))) (t .0)) in
+      (no-nine text (refusals (givenBy text)) (t .0) .1) in
       record {
         none = t .0;
         few = rw same (leb-true _ _ (f .0));

@@ -1,5 +1,5 @@
 // From a text over its pairs and their pattern to the plan.
-use bench_text::Input;
+use bench_text::inner::Input;
 ghost use mathlib.Core.Path.{_≡_};
 ghost use Prim.Native.Nat.{ℕ, _+_, _*_, _≤_};
 ghost use mathlib.Core.List.{List};
@@ -57,7 +57,8 @@ fn from_pattern(
     )
 }
 
-fn from_pairs(
+// Pattern and plan of pairs whose counts are within the limits, in the fronts of the lists.
+pub fn from_pairs(
     n: usize,
     count: usize,
     pairs: &[u32],
@@ -102,7 +103,7 @@ pub fn from_text(
         (Sheet (now «row_offsets») (now cols) (now diagonal) (now work) (now order) × (2 * particles ≤ length (now first))) ⌝ }
     ensures { λ r. ⌜ left r (now («row_offsets» .exit)) (now (cols .exit)) (now (order .exit)) (now (first .exit)) ≡ plannedFor (now (text .entry)) ⌝ }
 {
-    let input = bench_text::read(text, numbers);
+    let input = bench_text::inner::read(text, numbers);
     match input {
         Input::Refused(k) => Drafted::Refused(k),
         Input::Text { n, pairs } => {

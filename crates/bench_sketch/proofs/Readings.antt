@@ -16,9 +16,10 @@ use Rattle.order_definition.specs.Envelope.{firstBlock, firstCol, rowStarts}
 use Rattle.plan_make.specs.Plan.{planBy, planOf, envelopeLength}
 use Rattle.bench_scan.specs.Numbers.{isGap, isDigit, allowed, before as piecesBefore, pieces, filled, numbers, small}
 use Rattle.bench_text.specs.Text.{counted, described}
+use Rattle.bench_text.specs.Nine.{limits, numberBy}
 use Rattle.bench_print.specs.Digits.{digits, digitsIn}
 use Rattle.bench_print.specs.Lines.{numberLine, refusedText}
-use Rattle.bench_plan.specs.Outcome.{lengthBy, refusals, numberFor}
+use Rattle.bench_plan.specs.Outcome.{lengthBy, later, refusals, numberFor}
 use Rattle.bench_picture.specs.Pixels.{before, moved, hatched, after, pixel, digit, rowOf, headerOf, pictureOf}
 use Rattle.bench_sketch.specs.Spied.{sceneBy, sceneFor, spiedOf}
 
@@ -37,5 +38,5 @@ readings : Readings
 unfolding bytes value valueFrom all every some over fold gather upTo verdict stored columnsOf colsOf startOf startsOf joined storedBy neighbours reach
     settle chooseStart fresh placing orderOf firstBlock firstCol rowStarts planBy planOf envelopeLength isGap isDigit allowed piecesBefore pieces
     filled numbers small counted described digits digitsIn numberLine refusedText lengthBy refusals before moved hatched after pixel digit rowOf
-    headerOf pictureOf sceneBy sceneFor numberFor spiedOf
+    headerOf pictureOf sceneBy sceneFor limits later numberBy numberFor spiedOf
 readings = record { none = refl; one = refl; three = refl; beyond = refl; many = refl; empty = refl }

@@ -4,6 +4,7 @@ ghost use mathlib.Core.Path.{_≡_};
 ghost use Prim.Native.Nat.{_*_, _≤_};
 ghost use lib.ListN.{length};
 ghost use Rattle.law.specs.Limit.{particles};
+ghost use Rattle.bench_text.specs.Buffer.{Buffered};
 ghost use Rattle.bench_plan.specs.Built.{Sheet};
 ghost use Rattle.bench_plan.specs.Read.{numbersRoom};
 ghost use Rattle.bench_sketch.specs.Sketch.{Sketches};
@@ -14,9 +15,10 @@ pub enum Sketched {
     Done(usize),
 }
 
-// Reads the text and leaves its pattern and plan in the fronts of the lists.
+// Takes what was read into the buffer and leaves its pattern and plan in the fronts of the lists.
 pub fn sketch(
-    text: &[u8],
+    read: usize,
+    buffer: &[u8],
     numbers: &mut [u32],
     row_offsets: &mut [u32],
     cols: &mut [u32],
@@ -26,12 +28,13 @@ pub fn sketch(
     first: &mut [u32],
 ) -> Sketched
     requires { ⌜
-        (length (now numbers) ≡ numbersRoom) ×
-        (Sheet (now «row_offsets») (now cols) (now diagonal) (now work) (now order) × (2 * particles ≤ length (now first))) ⌝ }
-    ensures { λ r. ⌜ Sketches (now (text .entry)) r (now («row_offsets» .exit)) (now (cols .exit)) (now (order .exit)) (now (first .exit)) ⌝ }
+        Buffered read (now buffer) ×
+        ((length (now numbers) ≡ numbersRoom) ×
+        (Sheet (now «row_offsets») (now cols) (now diagonal) (now work) (now order) × (2 * particles ≤ length (now first)))) ⌝ }
+    ensures { λ r. ⌜ Sketches read (now (buffer .entry)) r (now («row_offsets» .exit)) (now (cols .exit)) (now (order .exit)) (now (first .exit)) ⌝ }
 {
     let came = bench_plan::inner::from_text(
-        text,
+        &buffer[..read],
         numbers,
         row_offsets,
         cols,

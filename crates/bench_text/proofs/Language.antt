@@ -1,7 +1,7 @@
 -- DOCUMENT 01'S SENTENCES on the text, each as a proposition: which numbers a text has, when it is as described, and when it is refused by 9.
 use Prim.Native.Nat.{ℕ, _+_, _*_, _≤_, _<_}
 use mathlib.Core.Path.{_≡_, refl, ap}
-use mathlib.Core.Bool.{Bool, true, false, not, cond}
+use mathlib.Core.Bool.{Bool, true, false, not}
 use mathlib.Core.List.{List, [], _∷_, _++_, map-append}
 use native.Mathlib.Omega.{arith}
 use lib.ListN.{length, getD}
@@ -9,11 +9,12 @@ use lib.Dec.{leb}
 use borrow.Author.Tests.{leb-true, le-leb, eqb-true, eq-eqb, not-true}
 use Rattle.law.specs.All.{all, all-at, all-of}
 use Rattle.law.specs.Decimal.{value, valueFrom}
-use Rattle.law.specs.Limit.{particles, pairs, bytes as byteLimit}
-use Rattle.law.specs.Refusal.{verdict}
+use Rattle.law.specs.Limit.{bytes as byteLimit}
+use Rattle.law.specs.Refusal.{Under}
 use Rattle.law.specs.Truth.{both, and-true}
 use Rattle.bench_scan.specs.Numbers.{isGap, allowed, before, pieces, filled, numbers, largest, small}
 use Rattle.bench_text.specs.Text.{counted, described, pairCount}
+use Rattle.bench_text.specs.Nine.{limits, nine-is, nine-of}
 use Rattle.bench_text.specs.Reading.{In, refusals, tests, numberOf}
 
 -- ---- a text's numbers: these three laws leave `numbers` no choice
@@ -113,24 +114,9 @@ described-of s d =
 
 -- ---- 9, exactly if the text is not as described
 
-below-nine : (a b c : Bool) → cond a (cond b (cond c 0 3) 2) 1 < 9
-below-nine false b c = omega arith
-below-nine true false c = omega arith
-below-nine true true false = omega arith
-below-nine true true true = omega arith
+no-test-is-nine : (i : In) → Under 9 (refusals i)
+unfolding tests limits
+no-test-is-nine i = (omega arith, (omega arith, (omega arith, tt)))
 
-nine-case : (d : Bool) (v : ℕ) → v < 9 → cond d v 9 ≡ 9 → d ≡ false
-nine-case true v l h = absurd (omega arith)
-nine-case false v l h = refl
-
-no-test-is-nine : (n p room : ℕ) → verdict (tests n p room) < 9
-unfolding verdict tests
-no-test-is-nine n p room = below-nine (leb n particles) (leb p pairs) (leb (2 * p) room)
-
-nine-is : (i : In) → numberOf i ≡ 9 → described (i .text) ≡ false
-unfolding numberOf
-nine-is i h = nine-case (described (i .text)) (verdict (refusals i)) (no-test-is-nine _ _ _) h
-
-nine-of : (i : In) → described (i .text) ≡ false → numberOf i ≡ 9
-unfolding numberOf
-nine-of i h = rw h
+nine-exactly : (i : In) → (numberOf i ≡ 9 → described (i .text) ≡ false) × (described (i .text) ≡ false → numberOf i ≡ 9)
+nine-exactly i = (nine-is (i .text) (refusals i) (no-test-is-nine i), nine-of (i .text) (refusals i))

@@ -20,10 +20,11 @@ use Rattle.bench_scan.specs.declared.inner.Scan.{Scan}
 use Rattle.bench_scan.specs.declared.inner.Scan.the-variants.{Bad, Gap, Word}
 use Rattle.bench_text.specs.Text.{counted, described, particleCount, pairCount, pairNumbers, Known}
 use Rattle.bench_text.specs.Head.{headOf, countedOf}
+use Rattle.bench_text.specs.Nine.{limits}
 use Rattle.bench_text.specs.Reading.{tests, given, left, work, pair-numbers}
 use Rattle.bench_text.specs.declared.head.Head.{Head}
 use Rattle.bench_text.specs.declared.head.Head.the-variants.{None, Counts}
-use Rattle.bench_text.specs.declared.Input.the-variants.{Text}
+use Rattle.bench_text.specs.declared.inner.Input.the-variants.{Text}
 
 -- ---- the first pass, into a room of two
 
@@ -126,5 +127,5 @@ module _ (s : List ℕ) (n p : ℕ) (k : Known s n p) where
       rw (stored, k .first, k .second)
 
 pub enough-room : (n p m : ℕ) → verdict (tests n p m) ≡ 0 → 2 * p ≤ m
-unfolding tests
+unfolding tests limits
 enough-room n p m h = let f = all-pass 1 (tests n p m) (omega arith) (omega arith, (omega arith, (omega arith, tt))) h in leb-true _ _ (f .1 .1 .0)

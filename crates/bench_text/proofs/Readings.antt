@@ -9,14 +9,16 @@ use Rattle.law.specs.All.{all}
 use Rattle.law.specs.Refusal.{verdict}
 use Rattle.bench_scan.specs.Numbers.{isGap, isDigit, allowed, before, pieces, filled, numbers, small}
 use Rattle.bench_text.specs.Text.{counted, described}
-use Rattle.bench_text.specs.Reading.{Out, given, left, tests, work, numberOf, outcomeOf}
-use Rattle.bench_text.specs.declared.Input.the-variants.{Refused, Text}
+use Rattle.law.specs.Said.{refused, carries}
+use Rattle.bench_text.specs.Nine.{limits, numberBy, outcomeBy}
+use Rattle.bench_text.specs.Reading.{Out, given, left, reading, tests, work}
+use Rattle.bench_text.specs.declared.inner.Input.the-variants.{Refused, Text}
 
 room : List ℕ
 room = 5 ∷ 6 ∷ 7 ∷ 8 ∷ []
 
 read-as : List ℕ → Out
-read-as text = outcomeOf (given text room)
+read-as text = outcomeBy reading text (given text room)
 
 record Readings : Type 0 where
   -- document 01's example, with its separators and leading zeros at will
@@ -34,13 +36,16 @@ record Readings : Type 0 where
   many : read-as (bytes "1025 0") ≡ left (Refused 1) room
   both : read-as (bytes "1025 1 0") ≡ left (Refused 9) room
   tight : read-as (bytes "3 3 0 1 1 2 2 0") ≡ left (Refused 3) room
+  -- what each answer says
+  plain-says : read-as (bytes "3 2 0 1 1 2") .said ≡ carries 0 (3 ∷ 2 ∷ []) []
+  many-says : read-as (bytes "1025 0") .said ≡ refused 1
   -- as many bytes as there may be, and one more
   full : read-as (replicate 65533 32 ++ bytes "1 0") ≡ left (Text 1 0) room
   over : read-as (replicate 65534 32 ++ bytes "1 0") ≡ left (Refused 9) room
 
 readings : Readings
-unfolding room read-as bytes value valueFrom all verdict isGap isDigit allowed before pieces filled numbers small counted described tests work
-    numberOf outcomeOf
+unfolding room read-as bytes value valueFrom all verdict isGap isDigit allowed before pieces filled numbers small counted described limits
+    tests work numberBy outcomeBy
 readings = record {
   plain = refl;
   spaced = refl;
@@ -54,6 +59,8 @@ readings = record {
   many = refl;
   both = refl;
   tight = refl;
+  plain-says = refl;
+  many-says = refl;
   full = refl;
   over = refl;
 }

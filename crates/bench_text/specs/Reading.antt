@@ -1,7 +1,7 @@
--- THE DOOR `read`: what it answers, and what it leaves in the lent room.
+-- READING A TEXT: what is answered, and what is left in the lent room.
 use Prim.Native.Nat.{ℕ, zero, suc, _*_, _≤_, _<_}
 use mathlib.Core.Path.{_≡_, refl, ap}
-use mathlib.Core.Bool.{Bool, true, false, cond}
+use mathlib.Core.Bool.{true}
 use mathlib.Core.List.{List, [], _∷_, _++_}
 use native.Mathlib.Omega.{arith}
 use lib.ListN.{length, getD, take, drop}
@@ -10,38 +10,46 @@ use lib.Dec.{leb}
 use borrow.Author.Tests.{leb-true, eqb-true}
 use Rattle.law.specs.All.{all}
 use Rattle.law.specs.Limit.{particles, pairs, bytes as byteLimit}
-use Rattle.law.specs.Number.{tooManyParticles, tooManyEntries, shortBuffer, badText}
-use Rattle.law.specs.Refusal.{Test, unless, Rising, verdict, all-pass}
-use Rattle.law.specs.Promise.{Door, by, outcome, Promise}
+use Rattle.law.specs.Number.{shortBuffer}
+use Rattle.law.specs.Refusal.{Test, unless, Rising, all-pass}
+use Rattle.law.specs.Promise.{Door, by}
+use Rattle.law.specs.Said.{Said, refused, carries}
 use Rattle.law.specs.Truth.{both}
 use Rattle.bench_scan.specs.Numbers.{allowed, numbers, small}
 use Rattle.bench_text.specs.Text.{counted, described, particleCount, pairCount, pairNumbers}
-use Rattle.bench_text.specs.declared.Input.{Input}
-use Rattle.bench_text.specs.declared.Input.the-variants.{Refused, Text}
+use Rattle.bench_text.specs.Nine.{limits, numberBy, outcomeBy, PromiseBy, no-nine}
+use Rattle.bench_text.specs.declared.inner.Input.{Input}
+use Rattle.bench_text.specs.declared.inner.Input.the-variants.{Refused, Text}
 
 pub record In : Type 0 where
   pub text : List ℕ
   pub room : List ℕ
 
+-- WHAT READING SAYS: the two counts
+abbrev pub inputSaid : Input → Said
+inputSaid (Refused k) = refused k
+inputSaid (Text n p) = carries 0 (n ∷ p ∷ []) []
+
 pub record Out : Type 0 where
   pub answer : Input
+  pub said : Said
   pub room : List ℕ
 
 abbrev pub given : List ℕ → List ℕ → In
 given text room = record { text = text; room = room }
 
 abbrev pub left : Input → List ℕ → Out
-left r room = record { answer = r; room = room }
+left r room = record { answer = r; said = inputSaid r; room = room }
 
 -- THE REFUSALS of a text that is as described, by its counts and the room
 unfoldable pub tests : ℕ → ℕ → ℕ → List Test
-tests n p room = unless tooManyParticles (leb n particles) ∷ unless tooManyEntries (leb p pairs) ∷ unless shortBuffer (leb (2 * p) room) ∷ []
+tests n p room = limits n p ++ (unless shortBuffer (leb (2 * p) room) ∷ [])
 
 abbrev pub refusals : In → List Test
 refusals i = tests (particleCount (i .text)) (pairCount (i .text)) (length (i .room))
 
 pub in-order : (i : In) → Rising 1 (refusals i)
-unfolding tests
+unfolding tests limits
 in-order i = (omega arith, (omega arith, (omega arith, tt)))
 
 -- THE WORK: the pairs' numbers over the front of the room, whose rest stays
@@ -51,28 +59,16 @@ work i = left (Text (particleCount (i .text)) (pairCount (i .text))) (pairNumber
 abbrev pub refuse : ℕ → In → Out
 refuse k i = left (Refused k) (i .room)
 
--- for texts that are as described
-abbrev pub door : Door In Out
-door = record { tests = refusals; in-order = in-order; work = work; refuse = refuse }
+abbrev pub reading : Door In Out
+reading = record { tests = refusals; in-order = in-order; work = work; refuse = refuse }
 
--- 9 PRECEDES ALL: only of a text that is as described the door's tests are asked
-unfoldable pub numberOf : In → ℕ
-numberOf i = cond (described (i .text)) (verdict (refusals i)) badText
-
-unfoldable pub outcomeOf : In → Out
-outcomeOf i = by (numberOf i) (work i) (λ k. refuse k i)
+-- 9 precedes all
+abbrev pub numberOf : In → ℕ
+numberOf i = numberBy (i .text) (refusals i)
 
 -- what `read` promises
 abbrev pub Reads : In → Out → Type 0
-Reads i o = o ≡ outcomeOf i
-
-pub not-described : (i : In) → described (i .text) ≡ false → Reads i (refuse badText i)
-unfolding outcomeOf numberOf
-not-described i h = rw h
-
-pub is-described : (i : In) (o : Out) → described (i .text) ≡ true → Promise door i o → Reads i o
-unfolding outcomeOf numberOf outcome
-is-described i o h p = rw h p
+Reads i o = PromiseBy reading (i .text) i o
 
 -- ---- what an answer says to the caller
 
@@ -91,11 +87,6 @@ text-case i zero n p z e = (refl, e)
 text-case i (suc q) n p z e =
     absurd (let a : Text n p ≡ Refused (suc q) = ap (λ (o : Out). o .answer) e in let z : _≡_ {A = ℕ} 0 1 = cc in omega arith)
 
--- 0 is the number of no refusal
-no-nine : (d : Bool) (v : ℕ) → cond d v badText ≡ 0 → (d ≡ true) × (v ≡ 0)
-no-nine true v h = (refl, h)
-no-nine false v h = absurd (omega arith)
-
 pairs-long : (vs : List ℕ) → counted vs ≡ true → length (drop 2 vs) ≡ 2 * getD vs 1 0
 unfolding counted
 pairs-long [] c = absurd (let z : _≡_ {A = ℕ} 0 1 = cc in omega arith)
@@ -108,11 +99,11 @@ pair-numbers s d =
     pairs-long (numbers s) (both (all small (numbers s)) _ (both (all allowed s) _ (both (leb (length s) byteLimit) _ d .1) .1) .1)
 
 pub accepted-of : (s room z : List ℕ) (n p : ℕ) → Reads (given s room) (left (Text n p) z) → Accepted s room z n p
-unfolding outcomeOf numberOf work tests
+unfolding outcomeBy work tests limits
 accepted-of s room z n p r =
     let i = given s room in
     let t = text-case i (numberOf i) n p z r in
-    let d = no-nine (described s) (verdict (refusals i)) (t .0) in
+    let d = no-nine s (refusals i) (t .0) in
     let f = all-pass 1 (refusals i) (omega arith) (in-order i) (d .1) in
     let a : Text n p ≡ Text (particleCount s) (pairCount s) = ap (λ (o : Out). o .answer) (t .1) in
     let first : n ≡ particleCount s = cc in
@@ -140,5 +131,5 @@ refused-case i (suc q) k z e =
     (s, omega arith)
 
 pub refused-of : (s room z : List ℕ) (k : ℕ) → Reads (given s room) (left (Refused k) z) → (numberOf (given s room) ≡ k) × (0 < k)
-unfolding outcomeOf
+unfolding outcomeBy
 refused-of s room z k r = refused-case (given s room) (numberOf (given s room)) k z r

@@ -1,7 +1,7 @@
 -- Document 01's readings of the factor through its door, computed, with a place more in the
 -- values than is needed; and refusals, which change nothing. Assumes nothing.
 use Prim.Native.Nat.{ℕ}
-use mathlib.Core.Path.{_≡_, refl}
+use mathlib.Core.Path.{_≡_, refl, ap}
 use mathlib.Core.List.{List, [], _∷_}
 use lib.Ieee.{Float, nan, binary32, ofBits, add, sub, mul, div, lt}
 use Rattle.law.specs.Loop.{fold, over}
@@ -9,6 +9,7 @@ use Rattle.law.specs.Every.{every, some}
 use Rattle.law.specs.Room.{enough}
 use Rattle.law.specs.Refusal.{verdict}
 use Rattle.law.specs.Promise.{outcome}
+use Rattle.law.specs.Said.{Said, refused, carries}
 use Rattle.root.specs.Sqrt.{sqrtOf}
 use Rattle.plane.specs.Plane.{zero32, one32}
 use Rattle.flat_runs.specs.Run.{dotRun}
@@ -53,3 +54,14 @@ unfolding handed outcome refusals work stateOf verdict enough valuesRoom pattern
     matrixOf loadOf rowInto slotsInto slotInto besideOf cornerOf factorOf rowStep rowOf closeOf pivotOf squareStep leftOf entryStep entryOf reducedOf
     dotRun later sqrtOf ofBits add sub mul div lt
 readings = record { done = refl; ended = refl; short = refl; unfit = refl; both = refl }
+
+-- what they say: 0 for a whole factor, 1 for a failure with its row and pivot, a refusal its number
+record Says : Type 0 where
+  done : handed (0 ∷ []) (0 ∷ 0 ∷ []) (four ∷ two ∷ two ∷ ten ∷ []) .said ≡ carries 0 [] []
+  ended : handed (0 ∷ []) (0 ∷ 0 ∷ []) (one32 ∷ two ∷ two ∷ four ∷ []) .said ≡ carries 1 (1 ∷ []) (zero32 ∷ [])
+  unfit : handed (0 ∷ []) (0 ∷ 1 ∷ []) (four ∷ two ∷ two ∷ ten ∷ []) .said ≡ refused 6
+
+says : Says
+says =
+    let of : Out → Said = λ o. o .said in
+    record { done = ap of (readings .done); ended = ap of (readings .ended); unfit = ap of (readings .unfit) }

@@ -1,2 +1,3 @@
 mod Readings
 mod FactorReadings
+pub mod Outcome

@@ -1,6 +1,6 @@
 -- Readings of the doors, computed: what each answers and leaves, rests included. Assumes nothing.
 use Prim.Native.Nat.{ℕ}
-use mathlib.Core.Path.{_≡_, refl}
+use mathlib.Core.Path.{_≡_, refl, ap}
 use mathlib.Core.List.{List, [], _∷_}
 use lib.Ieee.{Float, nan, binary32, ofBits, add, sub, mul, div}
 use Rattle.law.specs.Loop.{fold, over}
@@ -9,13 +9,14 @@ use Rattle.law.specs.Gather.{gather}
 use Rattle.law.specs.Room.{enough}
 use Rattle.law.specs.Refusal.{verdict}
 use Rattle.law.specs.Promise.{outcome}
+use Rattle.law.specs.Said.{Said, refused, carries}
 use Rattle.plane.specs.Plane.{zero32, one32}
 use Rattle.plan_fits.specs.Fits.{backOk, undoOk, twinsOk, firstsOk, growOk, startsOk, planRulesOk}
 use Rattle.plan_fits.specs.Given.{planRoom, factorLength}
 use Rattle.factor_substitution.specs.Passes.{rowSum, forwardBy, forwardStep, forwardOf, takenOf, backStep, backwardOf}
 use Rattle.factor_substitution.specs.Solve.{permuted, placedOf, solveOf}
 use Rattle.factor_doors.specs.declared.Solved.the-variants.{Refused, Done}
-use Rattle.factor_doors.specs.Solving.{In, given, left, valuesRoom, refusals, work, door}
+use Rattle.factor_doors.specs.Solving.{In, Out, given, left, valuesRoom, refusals, work, door}
 
 abbrev two : Float
 two = ofBits binary32 0x4000_0000
@@ -47,3 +48,13 @@ readings : Readings
 unfolding handed outcome refusals work verdict enough valuesRoom planRoom factorLength planRulesOk undoOk backOk firstsOk twinsOk startsOk growOk
     every over fold solveOf placedOf permuted backwardOf backStep takenOf forwardOf forwardStep forwardBy rowSum gather ofBits add sub mul div
 readings = record { solved = refl; short = refl; astray = refl; many = refl; none = refl }
+
+-- what they say: 0 for a solve, a refusal its number
+record Says : Type 0 where
+  solved : outcome door (handed (0 ∷ []) (two ∷ one32 ∷ three ∷ [])) .said ≡ carries 0 [] []
+  astray : outcome door (handed (1 ∷ []) (two ∷ one32 ∷ three ∷ [])) .said ≡ refused 6
+
+says : Says
+says =
+    let of : Out → Said = λ o. o .said in
+    record { solved = ap of (readings .solved); astray = ap of (readings .astray) }

@@ -8,7 +8,7 @@ use native.Mathlib.Omega.{arith}
 use native.Mathlib.Nat.{le-refl}
 use lib.ListN.{length, getD, set, length-set}
 use lib.Ieee.{Float, nan, lt}
-use Rattle.law.specs.Loop.{over, over-same, over-shift, over-holds}
+use Rattle.law.specs.Loop.{over, over-same, over-shift, over-keeps, over-holds}
 use Rattle.law.specs.Truth.{below-or}
 use Rattle.plane.specs.Plane.{_⊖_, _⊗_, zero32}
 use Rattle.flat_runs.specs.Run.{runStep, dotRun}
@@ -92,6 +92,30 @@ cholesky-same m f a b l low same = go
           rest = λ i j h g u p. w .rest i j h g u p ∙ at i j g u p;
         }
 
+-- nor do the factor's
+pub cholesky-kept : (m : ℕ) (f : ℕ → ℕ) (a l t : Matrix) → ((i : ℕ) → i < m → f i ≤ i) → ((i j : ℕ) → Cell m f i j → l i j ≡ t i j) → (h : Factored)
+    → Cholesky m f a l h → Cholesky m f a t h
+cholesky-kept m f a l t low same = go
+  where
+    at : (i j : ℕ) → i < m → f i ≤ j → j ≤ i → l i j ≡ t i j
+    at i j h g u = same i j (record { row = h; left = g; upto = u })
+
+    go : (h : Factored) → Cholesky m f a l h → Cholesky m f a t h
+    go Done w = finished-same f a l t m low at w
+    go (Failed r d) w =
+        let h = w .row in
+        let row : (k : ℕ) → f r ≤ k → k < r → l r k ≡ t r k = λ k p q. at r k h p (omega arith) in
+        record {
+          row = h;
+          earlier = finished-same f a l t r (λ i g. low i (omega arith)) (λ i j g u p. at i j (omega arith) u p) (w .earlier);
+          left = λ j g u. sym (row j g u) ∙ w .left j g u
+              ∙ entry-same f a l t r j (low j (omega arith)) (λ k p q. row k p (omega arith)) (λ k p q. at j k (omega arith) p q);
+          reached = w .reached ∙ pivot-same f a l t r row;
+          fails = w .fails;
+          diagonal = sym (at r r h (low r h) (le-refl r)) ∙ w .diagonal;
+          rest = λ i j g u p q. sym (at i j u p q) ∙ w .rest i j g u p q;
+        }
+
 -- ---- the places' sums are the entries'
 
 sum-is : (f s : ℕ → ℕ) (v : List Float) (i j k : ℕ) → f i ≤ k → f j ≤ k → dotRun v (place f s i k) v (place f s j k) (j - k) ≡ over
@@ -119,6 +143,30 @@ pivot-is f s a v i e =
     let there : over step 0 (i - f i) (a i i) ≡ over (pivotStep (look f s v) i) (f i) i (a i i) =
     over-shift step (pivotStep (look f s v) i) (f i) i (a i i) (λ c z l. let q : f i + c - f i ≡ c = omega arith in rw q) in
     rw e (sym here ∙ there)
+
+-- ---- the length stays
+
+closed-long : (i e : ℕ) (d : Float) (v : List Float) (b : Bool) → lt zero32 d ≡ b → length (closeOf i e d v .values) ≡ length v
+unfolding closeOf
+closed-long i e d v true u = rw u (length-set v e (sqrtOf d))
+closed-long i e d v false u = rw u
+
+row-long : (f s : ℕ → ℕ) (i : ℕ) (v : List Float) → length (rowOf f s i v .values) ≡ length v
+unfolding rowOf leftOf entryStep
+row-long f s i v =
+    let w = leftOf f s (f i) (s i) i v in
+    closed-long i (place f s i i) (pivotOf w (s i) (place f s i i)) w _ refl
+    ∙ over-keeps (λ t. length t ≡ length v) (entryStep f s (f i) (s i)) (f i) i v (λ j t h g e. length-set t _ _ ∙ e) refl
+
+step-long : (f s : ℕ → ℕ) (i : ℕ) (x : State) (h : Factored) → x .how ≡ h → length (rowStep f s i x .values) ≡ length (x .values)
+unfolding rowStep
+step-long f s i x Done e = rw e (row-long f s i (x .values))
+step-long f s i x (Failed r d) e = rw e
+
+pub factor-long : (f s : ℕ → ℕ) (m : ℕ) (v : List Float) → length (factorOf f s m v .values) ≡ length v
+unfolding factorOf
+factor-long f s m v =
+    over-keeps (λ x. length (x .values) ≡ length v) (rowStep f s) 0 m (state Done v) (λ i x h g e. step-long f s i x (x .how) refl ∙ e) refl
 
 -- ---- the rows
 

@@ -25,7 +25,7 @@ module _ (f : ℕ → ℕ) (l : ℕ → ℕ → Float) where
   forward-else a b k y ne =
       over-keeps (λ t. getD t k nan ≡ getD y k nan) (forwardStep f l) a b y (λ j t p q e. getD-set-other t j k _ nan (ne j p q) ∙ e) refl
 
-  forward-long : (a b : ℕ) (y : List Float) → length (over (forwardStep f l) a b y) ≡ length y
+  pub forward-long : (a b : ℕ) (y : List Float) → length (over (forwardStep f l) a b y) ≡ length y
   unfolding forwardStep
   forward-long a b y = over-keeps (λ t. length t ≡ length y) (forwardStep f l) a b y (λ j t p q e. length-set t j _ ∙ e) refl
 
@@ -34,7 +34,7 @@ module _ (f : ℕ → ℕ) (l : ℕ → ℕ → Float) where
   own i z h = getD-set-same z i _ nan h
 
   -- entry i looks only at those before it
-  summed : (i : ℕ) (z y : List Float) (u : Float) → ((k : ℕ) → k < i → getD z k nan ≡ getD y k nan) → forwardBy f l z u i ≡ forwardBy f l y u i
+  pub summed : (i : ℕ) (z y : List Float) (u : Float) → ((k : ℕ) → k < i → getD z k nan ≡ getD y k nan) → forwardBy f l z u i ≡ forwardBy f l y u i
   unfolding forwardBy rowSum
   summed i z y u e = rw (over-same (sumStep l z i) (sumStep l y i) (f i) i _ (λ k t p q. rw (e k q)))
 

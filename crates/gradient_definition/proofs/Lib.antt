@@ -1,1 +1,2 @@
+pub mod Rescale
 mod Readings

@@ -1,3 +1,4 @@
 pub mod Vectors
 pub mod Solve
+pub mod Rescale
 pub mod Inverse

@@ -19,3 +19,4 @@ pub mod Promise
 pub mod Said
 pub mod Limit
 pub mod Wide
+pub mod One

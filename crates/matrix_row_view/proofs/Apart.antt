@@ -22,9 +22,9 @@ use denote.Struct.Declared.{Declared}
 use denote.Struct.Laws as LL
 use denote.Struct.Rest.{all-own, ownAt, rest, own-open, own-out}
 use denote.Struct.Values.{Values}
-use Rattle.matrix_row_view.specs.declared.row.Row.{Row}
-use Rattle.matrix_row_view.proofs.row.Row as T
-use Rattle.matrix_row_view.proofs.row.Row.Laws as T′
+use Rattle.matrix_row_view.specs.declared.inner.Row.{Row}
+use Rattle.matrix_row_view.proofs.inner.Row as T
+use Rattle.matrix_row_view.proofs.inner.Row.Laws as T′
 
 abbrev pub viewOf : Lfts 1 → RattleType
 viewOf κs = T.the-row (namedLft 1 0 tt κs)

@@ -27,7 +27,7 @@ use denote.Ref.{RefT}
 use denote.Slice.{sliceVal, ShrSlice, shr-slice-copy}
 use denote.Steps.{owned, nothing}
 use denote.Triple.Spec.{tripleOf}
-use Rattle.matrix_row_view.proofs.row.row_first as row-first
+use Rattle.matrix_row_view.proofs.inner.row_first as row-first
 
 abbrev pub listVal : RefT (List ℕ) → Val
 listVal x = sliceVal (x .ptr) (length (x .now))

@@ -1,2 +1,4 @@
 mod Apart
 mod Lent
+mod Readings
+pub mod Outcome

@@ -1,1 +1,4 @@
 pub mod Row
+pub mod Said
+pub mod Showing
+pub mod Meaning

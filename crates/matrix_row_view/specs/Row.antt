@@ -12,9 +12,9 @@ use Rattle.law.specs.Truth.{both}
 use Rattle.law.specs.Store.{part, length-part, part-at}
 use Rattle.law.specs.Limit.{absent}
 use Rattle.matrix_shape.specs.Rows.{at, Pattern, row-end}
-use Rattle.matrix_row_view.specs.declared.row.Span.{Span}
-use Rattle.matrix_row_view.specs.declared.row.Slot.{Slot}
-use Rattle.matrix_row_view.specs.declared.row.Slot.the-variants.{At, Absent}
+use Rattle.matrix_row_view.specs.declared.inner.Span.{Span}
+use Rattle.matrix_row_view.specs.declared.inner.Slot.{Slot}
+use Rattle.matrix_row_view.specs.declared.inner.Slot.the-variants.{At, Absent}
 
 abbrev pub none : Span
 none = record { from = 0; to = 0 }
@@ -48,7 +48,7 @@ pub span-ok : (starts : List ℕ) (m r : ℕ) (p : Span) → p ≡ spanOf starts
 span-ok starts m r p e =
     rw e
     (in-order m (ltb (r + 1) (length starts)) _
-    (λ _. in-order m (leb (at starts r) (at starts (r + 1)) && leb (at starts (r + 1)) m) (record { from = at starts r; to = at starts (r + 1) })
+    (λ _. in-order m _ (record { from = at starts r; to = at starts (r + 1) })
     (λ t. let h = both _ _ t in (leb-true _ _ (h .0), leb-true _ _ (h .1)))))
 
 -- and its part of the column list is as long

@@ -9,7 +9,7 @@ use lib.ListN.{length, getD, set, replicate, length-append, length-set, length-r
 use lib.Seq.{getD-set-same, getD-set-other}
 use lib.Dec.{ltb, leb, eqb}
 use borrow.Author.Tests.{eqb-true, eq-eqb, ltb-true, not-true}
-use Rattle.order_definition.specs.Order.{among, passing, numbers, least, Breadth, met, meet, meetAll, degree, spread, reach, depth, farOf}
+use Rattle.order_definition.specs.Order.{among, passing, numbers, least, Breadth, met, meet, meetAll, spread, reach, depth, farOf}
 use Rattle.order_definition.specs.Order.{settle, chooseStart, startAfter}
 use Rattle.order_definition.proofs.At.{first, at-nil, getD-at, In, one-at}
 use Rattle.order_definition.proofs.Pigeon.{Distinct, distinct-one, distinct-append, in-head, in-tail, in-append, among-true, among-false}
@@ -113,7 +113,7 @@ module _ (nb : ℕ → List ℕ) (n : ℕ) (free : ℕ → Bool) where
         let a : In x (r .queue) = (length (r .queue) - 1, getD-at (r .queue) (length (r .queue) - 1) 0 (omega (arith, h .some))) in
         let t : ℕ → Bool = λ w. eqb (getD (r .level) w 0) (depth nb n r) in
         let k = in-passing t (r .queue) x a (eq-eqb (getD (r .level) x 0) (depth nb n r) refl) in
-        passing-in t (r .queue) (farOf nb n r) (least-in n (degree nb) (passing t (r .queue)) x k) .0
+        passing-in t (r .queue) (farOf nb n r) (least-in n _ (passing t (r .queue)) x k) .0
 
     abbrev pub Free : ℕ → Type 0
     Free w = (w < n) × (free w ≡ true)
@@ -134,18 +134,17 @@ module _ (nb : ℕ → List ℕ) (n : ℕ) (free : ℕ → Bool) where
         go true x y = x
         go false x y = y
 
-    pub least-free : (w : ℕ) → w < n → free w ≡ true → Free (least n (degree nb) (passing free (numbers n)))
-    least-free w lt fr =
-        let m = passing-in free (numbers n) _ (least-in n (degree nb) (passing free (numbers n)) w (in-passing free (numbers n) w (in-numbers n w lt) fr)) in
+    pub least-free : (d : ℕ → ℕ) (w : ℕ) → w < n → free w ≡ true → Free (least n d (passing free (numbers n)))
+    least-free d w lt fr =
+        let m = passing-in free (numbers n) _ (least-in n d (passing free (numbers n)) w (in-passing free (numbers n) w (in-numbers n w lt) fr)) in
         (numbers-below n _ (m .0), m .1)
+
+    settled-free : (k s : ℕ) → Free s → Free (settle nb n free k s (farOf nb n (reach nb n free s n)) (depth nb n (reach nb n free s n)))
+    settled-free k s f = settle-free k s _ _ f (far-free _ (reach-sound s (f .0) (f .1) n))
 
     choose-free : (w : ℕ) → w < n → free w ≡ true → Free (chooseStart nb n free)
     unfolding chooseStart
-    choose-free w lt fr =
-        let s = least n (degree nb) (passing free (numbers n)) in
-        let fs : Free s = least-free w lt fr in
-        let r = reach nb n free s n in
-        settle-free 4 s (farOf nb n r) (depth nb n r) fs (far-free r (reach-sound s (fs .0) (fs .1) n))
+    choose-free w lt fr = settled-free _ _ (least-free _ w lt fr)
 
 -- fewer than n placed leave one unplaced
 pub some-unplaced : (n : ℕ) (placed : List ℕ) → length placed < n → (w : ℕ) × (w < n) × (among placed w ≡ false)

@@ -14,7 +14,7 @@ use Rattle.law.specs.Loop.{rising, climbing}
 use Rattle.law.specs.Truth.{below-or}
 use Rattle.matrix_shape.specs.Formed.{Stored}
 use Rattle.matrix_shape.specs.Rows.{at}
-use Rattle.order_definition.specs.Order.{among, passing, neighbours, row, degree, fresh, startAfter}
+use Rattle.order_definition.specs.Order.{among, passing, neighbours, row, fresh, startAfter}
 use Rattle.order_definition.specs.Tight.{Tight}
 use Rattle.order_definition.proofs.At.{At, at-nil, at-lt, at-getD, getD-at, In}
 use Rattle.order_definition.proofs.Pigeon.{Distinct, distinct-nil, among-false}
@@ -97,7 +97,7 @@ module _ (n : ℕ) (starts cols : List ℕ) (t : Tight n starts cols) where
 
   pub fresh-in : (o : List ℕ) (v w : ℕ) → In w (fresh nb n o v) → In w (nb v) × (In w o → ⊥)
   unfolding fresh
-  fresh-in o v w a = go (in-sort (degree nb) [] (passing (λ (x : ℕ). not (among o x)) (nb v)) w a)
+  fresh-in o v w a = go (in-sort _ [] (passing (λ (x : ℕ). not (among o x)) (nb v)) w a)
     where
       go : In w [] ⊎ In w (passing (λ (x : ℕ). not (among o x)) (nb v)) → In w (nb v) × (In w o → ⊥)
       go (inl b) = absurd (at-nil (b .1))
@@ -105,13 +105,13 @@ module _ (n : ℕ) (starts cols : List ℕ) (t : Tight n starts cols) where
 
   pub in-fresh : (o : List ℕ) (v w : ℕ) → In w (nb v) → among o w ≡ false → In w (fresh nb n o v)
   unfolding fresh
-  in-fresh o v w a p = sort-in (degree nb) [] (passing (λ (x : ℕ). not (among o x)) (nb v)) w
+  in-fresh o v w a p = sort-in _ [] (passing (λ (x : ℕ). not (among o x)) (nb v)) w
       (inr (in-passing (λ (x : ℕ). not (among o x)) (nb v) w a (ap not p)))
 
   fresh-distinct : (o : List ℕ) (v : ℕ) → v < n → Distinct (fresh nb n o v)
   unfolding fresh neighbours
   fresh-distinct o v lt =
-      sort-distinct (degree nb) [] (passing (λ (x : ℕ). not (among o x)) (nb v)) distinct-nil
+      sort-distinct _ [] (passing (λ (x : ℕ). not (among o x)) (nb v)) distinct-nil
       (passing-distinct (λ (x : ℕ). not (among o x)) (nb v) (passing-distinct (λ (c : ℕ). not (eqb c v)) (row starts cols v) (row-distinct v lt)))
       (λ (w : ℕ) (a : In w []) (b : In w (passing (λ (x : ℕ). not (among o x)) (nb v))). at-nil (a .1))
 

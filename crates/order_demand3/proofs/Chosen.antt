@@ -70,3 +70,11 @@ module _ (d : ℕ → ℕ) where
   -- the least stays the least, however its company is told
   pub least-as : (P Q : ℕ → Type 0) (x : ℕ) → Least d P x → ((w : ℕ) → P w → Q w) → ((w : ℕ) → Q w → P w) → Least d Q x
   least-as P Q x h f g = record { among = f x (h .among); first = λ w q ne. h .first w (g w q) ne }
+
+  -- and it is the only one
+  pub least-one : (P : ℕ → Type 0) (x y : ℕ) → Least d P x → Least d P y → x ≡ y
+  least-one P x y p q = go (same-or x y)
+    where
+      go : (x ≡ y) ⊎ (x ≡ y → ⊥) → x ≡ y
+      go (inl e) = e
+      go (inr ne) = absurd (u .oneWay x y (p .first y (q .among) (λ e. ne (sym e))) (q .first x (p .among) ne))

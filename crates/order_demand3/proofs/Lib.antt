@@ -10,3 +10,6 @@ mod Chosen
 mod Levels
 mod Distances
 pub mod Picks
+mod Choices
+mod Origins
+pub mod Starts

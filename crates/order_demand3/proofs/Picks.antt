@@ -30,10 +30,10 @@ module _ (n : ℕ) (nb : ℕ → List ℕ) where
   abbrev open-of : List ℕ → ℕ → Bool
   open-of placed = λ v. not (among placed v)
 
-  unplaced-open : (placed : List ℕ) (w : ℕ) → (Holds placed w → ⊥) → open-of placed w ≡ true
+  pub unplaced-open : (placed : List ℕ) (w : ℕ) → (Holds placed w → ⊥) → open-of placed w ≡ true
   unplaced-open placed w f = ap not (untrue (among placed w) (λ (p : among placed w ≡ true). f (in-held placed w (among-true placed w p))))
 
-  open-unplaced : (placed : List ℕ) (w : ℕ) → open-of placed w ≡ true → Holds placed w → ⊥
+  pub open-unplaced : (placed : List ℕ) (w : ℕ) → open-of placed w ≡ true → Holds placed w → ⊥
   open-unplaced placed w p h = among-false placed w (not-true (among placed w) p) (held-in placed w h)
 
   begins : (placed : List ℕ) (w : ℕ) → Unplaced n placed w → Least (degree nb) (Unplaced n placed)

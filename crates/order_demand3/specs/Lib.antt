@@ -1,3 +1,4 @@
 pub mod Demand
 pub mod Keys
 pub mod Picks
+pub mod Starts

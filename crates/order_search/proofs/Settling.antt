@@ -71,7 +71,7 @@ far-free-at starts cols mark s tight f =
 pub least-free-at : (starts cols mark : List ℕ) → Tight (length mark) starts cols → SomeFree mark
     → FreeAt mark (least (length mark) (degree (neighbours starts cols)) (passing (unmarked mark) (numbers (length mark))))
 least-free-at starts cols mark tight f =
-    let q = least-free (neighbours starts cols) (length mark) (unmarked mark) (near (length mark) starts cols tight) (f .one) (f .isFree .below)
+    let q = least-free (neighbours starts cols) (length mark) (unmarked mark) (near (length mark) starts cols tight) _ (f .one) (f .isFree .below)
     (f .isFree .free) in
     record { below = q .0; free = q .1 }
 

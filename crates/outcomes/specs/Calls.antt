@@ -1,94 +1,84 @@
--- EVERY PUBLIC CALL, and that its promise admits one outcome and not none. What stands
--- behind `One` is the call's `ensures`, over all that the call is handed.
-use Prim.Native.Nat.{ℕ, _<_}
-use mathlib.Core.Path.{_≡_}
-use mathlib.Core.Bool.{Bool}
-use mathlib.Core.List.{List}
-use lib.ListN.{length}
-use lib.Ieee.{Float}
-use Rattle.law.specs.Promise.{Promise}
-use Rattle.law.specs.Wide.{Widened}
-use Rattle.plane.specs.Plane.{Vector, Block, addOf, subOf, scaleOf, dotOf, timesOf, determinantOf, inverseOf, blockFinite}
-use Rattle.root.specs.Whole.{rootOf}
-use Rattle.root.specs.Sqrt.{sqrtOf}
-use Rattle.matrix_row_view.specs.Row.{spanOf, rowFirst, rowCols, colOr, slotOr}
-use Rattle.matrix_doors.specs.FromPairs as from-pairs
-use Rattle.matrix_doors.specs.Building as building
-use Rattle.matrix_doors.specs.Indexing as index
-use Rattle.matrix_doors.specs.Clearing as clear-values
-use Rattle.matrix_doors.specs.Multiplying as mul
-use Rattle.matrix_doors.specs.Pinning as make-dirichlet
-use Rattle.plan_doors.specs.Planning as plan
-use Rattle.factor_doors.specs.Factorizing as factorize
-use Rattle.factor_doors.specs.Solving as direct
-use Rattle.gradient_doors.specs.Updating as update-preconditioner
-use Rattle.gradient_doors.specs.Solving as gradient
-use Rattle.step_solve.specs.Marking as factorize-step-matrix
-use Rattle.step_solve.specs.Stepping as solve-step
-use Rattle.step_response.specs.Responding as response-into
-use Rattle.step_tally.specs.declared.Tally.{Tally}
-use Rattle.step_tally.specs.declared.Kind.{Kind}
-use Rattle.step_tally.specs.declared.Asked.{Asked}
-use Rattle.step_tally.specs.Count.{totalOf, addedOf, countedOf}
-use Rattle.step_tally.specs.Runs.{fresh}
-use Rattle.step_counts.specs.Counting.{afterStep, afterResponse}
-use Rattle.bench_text.specs.Reading as read
-use Rattle.bench_desk.specs.Answering as answer
-use Rattle.outcomes.specs.One.{One, AndRecord}
+-- EVERY PUBLIC CALL, and that its contract admits one outcome and not none. A line cites what the call's own theorem
+-- cites, its `spec`, made of the `ensures` in its source.
+use Rattle.law.specs.One.{OneOutcome}
+use Rattle.law.proofs.wide as wide
+use Rattle.plane.proofs.add as add
+use Rattle.plane.proofs.sub as sub
+use Rattle.plane.proofs.scale as scale
+use Rattle.plane.proofs.dot as dot
+use Rattle.plane.proofs.times as times
+use Rattle.plane.proofs.determinant as determinant
+use Rattle.plane.proofs.inverse as inverse
+use Rattle.plane.proofs.is_finite as is-finite
+use Rattle.root.proofs.isqrt as isqrt
+use Rattle.root.proofs.root as root
+use Rattle.matrix_row_view.proofs.row_span as row-span
+use Rattle.matrix_row_view.proofs.row_col as row-col
+use Rattle.matrix_doors.proofs.from_pairs as from-pairs
+use Rattle.matrix_doors.proofs.pattern_from_pairs as pattern-from-pairs
+use Rattle.matrix_doors.proofs.block_index as block-index
+use Rattle.matrix_doors.proofs.diagonal_index as diagonal-index
+use Rattle.matrix_doors.proofs.clear_values as clear-values
+use Rattle.matrix_doors.proofs.mul as mul
+use Rattle.matrix_doors.proofs.make_dirichlet as make-dirichlet
+use Rattle.plan_doors.proofs.plan as plan
+use Rattle.factor_doors.proofs.factorize as factorize
+use Rattle.factor_doors.proofs.solve as factor-solve
+use Rattle.gradient_doors.proofs.update_preconditioner as update-preconditioner
+use Rattle.gradient_doors.proofs.solve as gradient-solve
+use Rattle.step_doors.proofs.factorize_step_matrix as factorize-step-matrix
+use Rattle.step_doors.proofs.solve_step as solve-step
+use Rattle.step_doors.proofs.response_into as response-into
+use Rattle.step_tally.proofs.fresh as fresh
+use Rattle.step_tally.proofs.total as total
+use Rattle.step_tally.proofs.added as added
+use Rattle.step_tally.proofs.counted as counted
+use Rattle.step_tally.proofs.count as count
+use Rattle.bench_desk.proofs.answer as answer
 
-pub record OneOutcome : Type 0 where
+pub record EveryCall : Type 2 where
   -- law
-  pub law-wide : (x : ℕ) → x < 4294967296 → One (Widened x)
+  pub law-wide : OneOutcome wide.ended (λ M. wide.spec)
   -- plane
-  pub plane-add : (u v : Vector) → One (λ r. r ≡ addOf u v)
-  pub plane-sub : (u v : Vector) → One (λ r. r ≡ subOf u v)
-  pub plane-scale : (v : Vector) (k : Float) → One (λ r. r ≡ scaleOf v k)
-  pub plane-dot : (u v : Vector) → One (λ r. r ≡ dotOf u v)
-  pub plane-times : (m : Block) (v : Vector) → One (λ r. r ≡ timesOf m v)
-  pub plane-determinant : (m : Block) → One (λ r. r ≡ determinantOf m)
-  pub plane-inverse : (m : Block) → One (λ r. r ≡ inverseOf m)
-  pub plane-is-finite : (m : Block) → One (λ (r : Bool). r ≡ blockFinite m)
+  pub plane-add : OneOutcome add.ended (λ M. add.spec)
+  pub plane-sub : OneOutcome sub.ended (λ M. sub.spec)
+  pub plane-scale : OneOutcome scale.ended (λ M. scale.spec)
+  pub plane-dot : OneOutcome dot.ended (λ M. dot.spec)
+  pub plane-times : OneOutcome times.ended (λ M. times.spec)
+  pub plane-determinant : OneOutcome determinant.ended (λ M. determinant.spec)
+  pub plane-inverse : OneOutcome inverse.ended (λ M. inverse.spec)
+  pub plane-is-finite : OneOutcome is-finite.ended (λ M. is-finite.spec)
   -- root
-  pub root-isqrt : (n : ℕ) → One (λ r. r ≡ rootOf n)
-  pub root-root : (x : Float) → One (λ r. r ≡ sqrtOf x)
-  -- matrix_row_view: a row shown is its columns and its first slot
-  pub matrix-row-view-span-at : (starts cols : List ℕ) (r : ℕ) → One (λ p. p ≡ spanOf starts (length cols) r)
-  pub matrix-row-view-row-first : (starts cols : List ℕ) (r : ℕ) → One (λ k. k ≡ rowFirst starts cols r)
-  pub matrix-row-view-row-len : (starts cols : List ℕ) (r : ℕ) → One (λ k. k ≡ length (rowCols starts cols r))
-  pub matrix-row-view-row-cols : (starts cols : List ℕ) (r : ℕ) → One (λ s. s ≡ rowCols starts cols r)
-  pub matrix-row-view-col-or : (cols : List ℕ) (j : ℕ) → One (λ c. c ≡ colOr cols j)
-  pub matrix-row-view-slot-or : (cols : List ℕ) (first j : ℕ) → One (λ s. s ≡ slotOr cols first j)
-  pub matrix-row-view-view : (starts cols : List ℕ) (r : ℕ) → One (λ (v : List ℕ × ℕ). (v .0 ≡ rowCols starts cols r) × (v .1 ≡ rowFirst starts cols r))
-  pub matrix-row-view-len : (shown : List ℕ) → One (λ n. n ≡ length shown)
-  pub matrix-row-view-col-at : (shown : List ℕ) (j : ℕ) → One (λ c. c ≡ colOr shown j)
-  pub matrix-row-view-slot-at : (shown : List ℕ) (first j : ℕ) → One (λ s. s ≡ slotOr shown first j)
-  pub matrix-row-view-row-col : (starts cols : List ℕ) (r j : ℕ) → One (λ c. c ≡ colOr (rowCols starts cols r) j)
+  pub root-isqrt : OneOutcome isqrt.ended (λ M. isqrt.spec)
+  pub root-root : OneOutcome root.ended (λ M. root.spec)
+  -- matrix_row_view
+  pub matrix-row-view-row-span : OneOutcome row-span.ended (λ M. row-span.spec)
+  pub matrix-row-view-row-col : OneOutcome row-col.ended (λ M. row-col.spec)
   -- matrix_doors
-  pub matrix-doors-from-pairs : (i : from-pairs.In) → One (Promise from-pairs.door i)
-  pub matrix-doors-pattern-from-pairs : (i : building.In) → One (Promise building.door i)
-  pub matrix-doors-block-index : (col : ℕ) (i : index.In) → One (Promise (index.blockDoor col) i)
-  pub matrix-doors-diagonal-index : (i : index.In) → One (Promise index.diagonalDoor i)
-  pub matrix-doors-clear-values : (i : clear-values.In) → One (Promise clear-values.door i)
-  pub matrix-doors-mul : (i : mul.In) → One (Promise mul.door i)
-  pub matrix-doors-make-dirichlet : (i : make-dirichlet.In) → One (Promise make-dirichlet.door i)
+  pub matrix-doors-from-pairs : OneOutcome from-pairs.ended (λ M. from-pairs.spec)
+  pub matrix-doors-pattern-from-pairs : OneOutcome pattern-from-pairs.ended (λ M. pattern-from-pairs.spec)
+  pub matrix-doors-block-index : OneOutcome block-index.ended (λ M. block-index.spec)
+  pub matrix-doors-diagonal-index : OneOutcome diagonal-index.ended (λ M. diagonal-index.spec)
+  pub matrix-doors-clear-values : OneOutcome clear-values.ended (λ M. clear-values.spec)
+  pub matrix-doors-mul : OneOutcome mul.ended (λ M. mul.spec)
+  pub matrix-doors-make-dirichlet : OneOutcome make-dirichlet.ended (λ M. make-dirichlet.spec)
   -- plan_doors
-  pub plan-doors-plan : (i : plan.In) → One (Promise plan.door i)
+  pub plan-doors-plan : OneOutcome plan.ended (λ M. plan.spec)
   -- factor_doors
-  pub factor-doors-factorize : (i : factorize.In) → One (Promise factorize.door i)
-  pub factor-doors-solve : (i : direct.In) → One (Promise direct.door i)
+  pub factor-doors-factorize : OneOutcome factorize.ended (λ M. factorize.spec)
+  pub factor-doors-solve : OneOutcome factor-solve.ended (λ M. factor-solve.spec)
   -- gradient_doors
-  pub gradient-doors-update-preconditioner : (i : update-preconditioner.In) → One (Promise update-preconditioner.door i)
-  pub gradient-doors-solve : (i : gradient.In) → One (Promise gradient.door i)
-  -- step_doors: t is the tally that is lent
-  pub step-doors-factorize-step-matrix : (i : factorize-step-matrix.In) → One (Promise factorize-step-matrix.door i)
-  pub step-doors-solve-step : (i : solve-step.In) (t : Tally) → One (AndRecord solve-step.door afterStep i t)
-  pub step-doors-response-into : (i : response-into.In) (t : Tally) → One (AndRecord response-into.door afterResponse i t)
+  pub gradient-doors-update-preconditioner : OneOutcome update-preconditioner.ended (λ M. update-preconditioner.spec)
+  pub gradient-doors-solve : OneOutcome gradient-solve.ended (λ M. gradient-solve.spec)
+  -- step_doors
+  pub step-doors-factorize-step-matrix : OneOutcome factorize-step-matrix.ended (λ M. factorize-step-matrix.spec)
+  pub step-doors-solve-step : OneOutcome solve-step.ended (λ M. solve-step.spec)
+  pub step-doors-response-into : OneOutcome response-into.ended (λ M. response-into.spec)
   -- step_tally
-  pub step-tally-fresh : One (λ r. r ≡ fresh)
-  pub step-tally-total : (t : Tally) → One (λ r. r ≡ totalOf t)
-  pub step-tally-added : (t : Tally) (k : Kind) → One (λ r. r ≡ addedOf t k)
-  pub step-tally-counted : (t : Tally) (a : Asked) → One (λ r. r ≡ countedOf t a)
-  pub step-tally-count : (t : Tally) (a : Asked) → One (λ u. u ≡ countedOf t a)
-  -- the bench program's reader and its whole answer
-  pub bench-text-read : (i : read.In) → One (read.Reads i)
-  pub bench-desk-answer : (i : answer.In) → One (Promise answer.door i)
+  pub step-tally-fresh : OneOutcome fresh.ended (λ M. fresh.spec)
+  pub step-tally-total : OneOutcome total.ended (λ M. total.spec)
+  pub step-tally-added : OneOutcome added.ended (λ M. added.spec)
+  pub step-tally-counted : OneOutcome counted.ended (λ M. counted.spec)
+  pub step-tally-count : OneOutcome count.ended (λ M. count.spec)
+  -- bench_desk
+  pub bench-desk-answer : OneOutcome answer.ended (λ M. answer.spec)

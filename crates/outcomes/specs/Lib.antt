@@ -1,4 +1,2 @@
-pub mod One
 pub mod Calls
-pub mod Numbers
 pub mod Impostors

@@ -1,1 +1,3 @@
 mod Readings
+pub mod Outcome
+mod SaidReadings

@@ -1,4 +1,4 @@
-// A response, counted.
+// A response, counted by the very door: `step_lent` lends it the line's record.
 ghost use Prim.Native.Nat.{_≤_};
 ghost use Rattle.replay_tokens.specs.Room.{room};
 use crate::ending::of_response;
@@ -15,8 +15,7 @@ use replay_tokens::list::wholes;
 use replay_tokens::print::Room;
 use replay_tokens::print::float_list;
 use replay_tokens::word::real;
-use step_response::Responded;
-use step_tally::Tally;
+use step_lent::AfterResponse;
 
 // The call, with what the line gives it.
 fn made(
@@ -30,8 +29,8 @@ fn made(
     direction: &mut [f32],
     a_direction: &mut [f32],
     z: &mut [f32],
-) -> Responded {
-    step_response::inner::response_into(
+) -> AfterResponse {
+    step_lent::inner::response_into(
         wide(plain(w, 0)),
         wholes(w, 6, 0),
         wholes(w, 6, 1),
@@ -58,13 +57,13 @@ fn made(
         direction,
         a_direction,
         z,
+        record::read(w, 6, 20),
     )
 }
 
 // The verdict, the lists and the counts as they stand afterwards, the gain and how the solve ended.
 fn tell(
-    answer: Responded,
-    counts: Tally,
+    after: AfterResponse,
     solution: &[f32],
     rhs: &[f32],
     scratch: &[f32],
@@ -76,11 +75,12 @@ fn tell(
 ) -> usize
     ensures { λ r. ⌜ r ≤ room ⌝ }
 {
+    let answer = after.answer;
+    let record = after.tally;
     let at = responded(answer, out);
     let mut to = float_list(solution, out, at);
     to = float_list(rhs, out, to);
     to = show(scratch, residual, direction, a_direction, z, out, to);
-    let record = step_tally::counted(counts, step_counts::asked::by_response(answer));
     to = record::show(record, out, to);
     of_response(answer, out, to)
 }
@@ -100,7 +100,7 @@ fn respond(
 ) -> usize
     ensures { λ r. ⌜ r ≤ room ⌝ }
 {
-    let answer = made(
+    let after = made(
         w,
         line,
         pinned,
@@ -112,10 +112,8 @@ fn respond(
         a_direction,
         z,
     );
-    let counts = record::read(w, 6, 20);
     tell(
-        answer,
-        counts,
+        after,
         solution,
         rhs,
         scratch,

@@ -1,4 +1,4 @@
-// A step solve, counted.
+// A step solve, counted by the very door: `step_lent` lends it the line's record.
 ghost use Prim.Native.Nat.{_≤_};
 ghost use Rattle.replay_tokens.specs.Room.{room};
 use crate::ending::of_step;
@@ -12,8 +12,7 @@ use replay_tokens::list::wholes;
 use replay_tokens::print::Room;
 use replay_tokens::print::float_list;
 use replay_tokens::word::real;
-use step_solve::Stepped;
-use step_tally::Tally;
+use step_lent::AfterStep;
 
 // The call, with what the line gives it.
 fn made(
@@ -25,8 +24,8 @@ fn made(
     direction: &mut [f32],
     a_direction: &mut [f32],
     z: &mut [f32],
-) -> Stepped {
-    step_solve::inner::solve_step(
+) -> AfterStep {
+    step_lent::inner::solve_step(
         wide(plain(w, 0)),
         wholes(w, 5, 0),
         wholes(w, 5, 1),
@@ -49,13 +48,13 @@ fn made(
         direction,
         a_direction,
         z,
+        record::read(w, 5, 17),
     )
 }
 
 // The verdict, the lists and the counts as they stand afterwards, and how the solve ended.
 fn tell(
-    answer: Stepped,
-    counts: Tally,
+    after: AfterStep,
     x: &[f32],
     scratch: &[f32],
     residual: &[f32],
@@ -66,10 +65,11 @@ fn tell(
 ) -> usize
     ensures { λ r. ⌜ r ≤ room ⌝ }
 {
+    let answer = after.answer;
+    let record = after.tally;
     let at = stepped(answer, out);
     let mut to = float_list(x, out, at);
     to = show(scratch, residual, direction, a_direction, z, out, to);
-    let record = step_tally::counted(counts, step_counts::asked::by_step(answer));
     to = record::show(record, out, to);
     of_step(answer, out, to)
 }
@@ -87,17 +87,6 @@ pub fn call(
 ) -> usize
     ensures { λ r. ⌜ r ≤ room ⌝ }
 {
-    let answer = made(w, line, x, scratch, residual, direction, a_direction, z);
-    let counts = record::read(w, 5, 17);
-    tell(
-        answer,
-        counts,
-        x,
-        scratch,
-        residual,
-        direction,
-        a_direction,
-        z,
-        out,
-    )
+    let after = made(w, line, x, scratch, residual, direction, a_direction, z);
+    tell(after, x, scratch, residual, direction, a_direction, z, out)
 }

@@ -13,3 +13,4 @@ pub mod Rounding
 pub mod Fixed
 pub mod Above
 mod Readings
+pub mod Outcome

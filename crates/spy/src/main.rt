@@ -5,6 +5,7 @@ ghost use mathlib.Core.Path.{_≡_};
 ghost use Prim.Native.Nat.{_*_, _≤_};
 ghost use lib.ListN.{length};
 ghost use Rattle.law.specs.Limit.{particles};
+ghost use Rattle.bench_text.specs.Buffer.{Buffered};
 ghost use Rattle.bench_plan.specs.Built.{Sheet};
 ghost use Rattle.bench_plan.specs.Read.{numbersRoom};
 ghost use Rattle.bench_picture.specs.Ready.{lineRoom};
@@ -13,7 +14,8 @@ mod output;
 
 // By what the text came to.
 fn reply_in(
-    text: &[u8],
+    read: usize,
+    buffer: &[u8],
     numbers: &mut [u32],
     row_offsets: &mut [u32],
     cols: &mut [u32],
@@ -24,12 +26,14 @@ fn reply_in(
     line: &mut [u8],
 )
     requires { ⌜
-        (length (now numbers) ≡ numbersRoom) ×
+        Buffered read (now buffer) ×
+        ((length (now numbers) ≡ numbersRoom) ×
         (Sheet (now «row_offsets») (now cols) (now diagonal) (now work) (now order)
-        × ((2 * particles ≤ length (now first)) × (lineRoom particles ≤ length (now line)))) ⌝ }
+        × ((2 * particles ≤ length (now first)) × (lineRoom particles ≤ length (now line))))) ⌝ }
 {
     let came = bench_sketch::inner::sketch(
-        text,
+        read,
+        buffer,
         numbers,
         row_offsets,
         cols,
@@ -56,8 +60,11 @@ fn reply_in(
     }
 }
 
-// The lists are here, each as long as the limits ask, and nothing else.
-fn reply(text: &[u8]) {
+// The lists are here, each as long as the limits ask, and nothing else. The buffer has room for more bytes than a text may have, which shows that there
+// are more.
+fn reply(read: usize, buffer: &[u8])
+    requires { ⌜ Buffered read (now buffer) ⌝ }
+{
     let mut numbers = [0u32; 8192];
     let mut row_offsets = [0u32; 1025];
     let mut cols = [0u32; 9216];
@@ -67,7 +74,8 @@ fn reply(text: &[u8]) {
     let mut first = [0u32; 2048];
     let mut line = [0u8; 4098];
     reply_in(
-        text,
+        read,
+        buffer,
         &mut numbers,
         &mut row_offsets,
         &mut cols,
@@ -80,7 +88,7 @@ fn reply(text: &[u8]) {
 }
 
 fn main() {
-    let mut text = [0u8; law::BYTES + 1];
-    let n = io::read_full(libc::STDIN_FILENO, &mut text);
-    reply(&text[..n]);
+    let mut buffer = [0u8; law::BYTES + 1];
+    let read = io::read_full(libc::STDIN_FILENO, &mut buffer);
+    reply(read, &buffer);
 }

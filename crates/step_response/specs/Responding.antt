@@ -14,7 +14,6 @@ use Rattle.law.specs.Room.{enough}
 use Rattle.law.specs.Refusal.{Test, unless, Rising, verdict, all-pass, none-fails}
 use Rattle.law.specs.Promise.{Door}
 use Rattle.law.specs.Said.{Said}
-use Rattle.plane.specs.Plane.{zero32}
 use Rattle.step_solve.specs.declared.Stepped.{Stepped}
 use Rattle.step_solve.specs.declared.Stepped.the-variants as stepped
 use Rattle.step_routes.specs.Dense.{cleared, swept, stepHeld, structural, later}
@@ -173,13 +172,6 @@ door = record {
   refuse = λ k i. left (Refused k) (i .out) (i .rhs) (i .scratch) (i .residual)
       (i .direction) (i .a-direction) (i .z);
 }
-
--- THE GAIN that an answer gives: +0.0 where nothing was asked for. A refusal gives none
-abbrev pub gain : Responded → Float
-gain (Refused k) = zero32
-gain Nothing = zero32
-gain (Direct g) = g
-gain (Iterated g o) = g
 
 -- ---- what the work requires
 

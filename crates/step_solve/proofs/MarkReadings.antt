@@ -1,7 +1,7 @@
 -- Readings of `factorize_step_matrix`, computed: one particle, with a place too many in
 -- the values and in the preconditioner, and NaN in both. Assumes nothing.
 use Prim.Native.Nat.{ℕ}
-use mathlib.Core.Path.{_≡_, refl}
+use mathlib.Core.Path.{_≡_, refl, ap}
 use mathlib.Core.List.{List, [], _∷_}
 use lib.Ieee.{Float, nan, binary32, ofBits, add, sub, mul, div, neg, lt}
 use Rattle.law.specs.Loop.{fold, over}
@@ -10,6 +10,7 @@ use Rattle.law.specs.Gather.{gather}
 use Rattle.law.specs.Room.{enough}
 use Rattle.law.specs.Refusal.{verdict, when}
 use Rattle.law.specs.Promise.{outcome}
+use Rattle.law.specs.Said.{Said, refused, carries}
 use Rattle.root.specs.Sqrt.{sqrtOf}
 use Rattle.plane.specs.Plane.{zero32, one32}
 use Rattle.flat_runs.specs.Run.{dotRun}
@@ -81,3 +82,20 @@ unfolding handed outcome refusals work renewed planHeld structural when verdict 
     firstsOk twinsOk startsOk growOk every some matrixOf loadOf rowInto slotsInto slotInto besideOf cornerOf factorOf rowStep rowOf closeOf pivotOf
     squareStep leftOf entryStep entryOf reducedOf dotRun later orIdentity inverseAt gather over fold sqrtOf ofBits add sub mul div neg lt
 readings = record { whole = refl; failed = refl; above = refl; planless = refl; plan-needed = refl; plan-unfit = refl; short = refl }
+
+-- what they say: 0 for a whole factor, 1 for a failure with its row and pivot, 2 for the iterative route, a refusal its number
+record Says : Type 0 where
+  whole : handed (four ∷ two ∷ two ∷ ten ∷ []) (0 ∷ []) (0 ∷ 1 ∷ 3 ∷ []) 2 values .said ≡ carries 0 [] []
+  failed : handed (one32 ∷ two ∷ two ∷ four ∷ []) (0 ∷ []) (0 ∷ 1 ∷ 3 ∷ []) 2 values .said ≡ carries 1 (1 ∷ []) (zero32 ∷ [])
+  planless : handed (two ∷ zero32 ∷ zero32 ∷ four ∷ []) [] [] 1 [] .said ≡ carries 2 [] []
+  plan-unfit : handed (two ∷ zero32 ∷ zero32 ∷ four ∷ []) (1 ∷ []) (0 ∷ 1 ∷ 3 ∷ []) 2 values .said ≡ refused 6
+
+says : Says
+says =
+    let of : Out → Said = λ o. o .said in
+    record {
+      whole = ap of (readings .whole);
+      failed = ap of (readings .failed);
+      planless = ap of (readings .planless);
+      plan-unfit = ap of (readings .plan-unfit);
+    }

@@ -1,7 +1,7 @@
 -- Readings of the step solve, computed: one particle, whose factor 2, 1, 3 is that of (4, 2), (2,
 -- 10); lists with a place too many and NaN in all that may be written. Assumes nothing.
 use Prim.Native.Nat.{ℕ}
-use mathlib.Core.Path.{_≡_, refl}
+use mathlib.Core.Path.{_≡_, refl, ap}
 use mathlib.Core.Bool.{Bool, true, false}
 use mathlib.Core.List.{List, [], _∷_}
 use lib.Ieee.{Float, nan, inf, binary32, ofBits, add, sub, mul, div, neg, lt, le, eq, ne}
@@ -11,6 +11,7 @@ use Rattle.law.specs.Gather.{gather}
 use Rattle.law.specs.Room.{enough}
 use Rattle.law.specs.Refusal.{verdict, when}
 use Rattle.law.specs.Promise.{outcome}
+use Rattle.law.specs.Said.{Said, refused, carries}
 use Rattle.plane.specs.Plane.{zero32, one32}
 use Rattle.vectors.specs.Whole.{dotAll}
 use Rattle.matrix_shape.specs.Formed.{slotOk as columnOk, homeOk, rowOk as columnsOk, stored, mirrorsOk, startsOk as offsetsOk, wellFormed}
@@ -20,7 +21,7 @@ use Rattle.plan_fits.specs.Given.{planRoom, factorLength}
 use Rattle.factor_substitution.specs.Passes.{rowSum as solvedSum, forwardBy, forwardStep, forwardOf, takenOf, backStep, backwardOf}
 use Rattle.factor_substitution.specs.Solve.{permuted, placedOf, solveOf}
 use Rattle.matrix_values.specs.Product.{slotStep, rowSum, productAt}
-use Rattle.gradient_definition.specs.declared.Outcome.the-variants.{Near, Converged, Limit}
+use Rattle.gradient_definition.specs.declared.Outcome.the-variants.{Zero, Near, Converged, Curvature, Limit}
 use Rattle.gradient_definition.specs.Vectors.{product, preconditioned, advanced, retreated, redirected, lacking, scaled, zeros}
 use Rattle.gradient_definition.specs.Solve.{turn, run, rescaled, finished, freshOf, launched, started, solved}
 use Rattle.factor_doors.specs.Solving as D
@@ -51,6 +52,9 @@ twelve = ofBits binary32 0x4140_0000
 -- b's squared length
 abbrev sum : Float
 sum = ofBits binary32 0x4334_0000
+
+abbrev minus-one : Float
+minus-one = ofBits binary32 0xbf80_0000
 
 -- a list that may be written, and the same with its needed part zero
 abbrev junk : List Float
@@ -87,6 +91,10 @@ record Readings : Type 0 where
   -- and needs neither plan nor factor; the identity is solved in one turn
   planless : outcome door (handed (one32 ∷ zero32 ∷ zero32 ∷ one32 ∷ []) [] [] [] true zero32 1 1) ≡ left (Iterated (Converged 1 zero32))
       (six ∷ twelve ∷ nan ∷ []) junk none none none none
+  -- minus the identity bends at once; and no particles are Zero
+  bent : outcome door (handed (minus-one ∷ zero32 ∷ zero32 ∷ minus-one ∷ []) [] [] [] true zero32 1 1)
+      ≡ left (Iterated (Curvature 0 sum (ofBits binary32 0xc334_0000))) none junk none none none none
+  nobody : outcome door (given 0 (0 ∷ []) [] [] [] [] [] [] (0 ∷ []) [] false [] [] zero32 0 0 [] [] [] [] [] []) ≡ left (Iterated (Zero 0)) [] [] [] [] [] []
   -- which are needed, and must fit, where 2n isn't above it, whatever the mark
   plan-needed : outcome door (handed (one32 ∷ zero32 ∷ zero32 ∷ one32 ∷ []) [] [] [] false zero32 1 2) ≡ no 3
   plan-unfit : outcome door (handed (one32 ∷ zero32 ∷ zero32 ∷ one32 ∷ []) (1 ∷ []) (0 ∷ 1 ∷ 3 ∷ []) (two ∷ one32 ∷ three ∷ []) false zero32 1 2) ≡ no 6
@@ -109,9 +117,36 @@ readings = record {
   above = refl;
   above-unmarked = refl;
   planless = refl;
+  bent = refl;
+  nobody = refl;
   plan-needed = refl;
   plan-unfit = refl;
   limit = refl;
   tolerance = refl;
   many = refl;
 }
+
+-- what they say: 0 for the factor's route, an outcome its number, its count and its floats, a refusal its number
+record Says : Type 0 where
+  direct : planned true zero32 0 2 .said ≡ carries 0 [] []
+  zero : outcome door (given 0 (0 ∷ []) [] [] [] [] [] [] (0 ∷ []) [] false [] [] zero32 0 0 [] [] [] [] [] []) .said ≡ carries 1 (0 ∷ []) []
+  near : planned false one32 9 2 .said ≡ carries 2 (0 ∷ []) (sum ∷ [])
+  converged : outcome door (handed (one32 ∷ zero32 ∷ zero32 ∷ one32 ∷ []) [] [] [] true zero32 1 1) .said ≡ carries 3 (1 ∷ []) (zero32 ∷ [])
+  curvature : outcome door (handed (minus-one ∷ zero32 ∷ zero32 ∷ minus-one ∷ []) [] [] [] true zero32 1 1) .said
+      ≡ carries 4 (0 ∷ []) (sum ∷ ofBits binary32 0xc334_0000 ∷ [])
+  limit : planned false zero32 0 2 .said ≡ carries 5 (0 ∷ []) (sum ∷ [])
+  not-solved : planned true nan 0 2 .said ≡ refused 8
+
+says : Says
+unfolding no
+says =
+    let of : Out → Said = λ o. o .said in
+    record {
+      direct = ap of (readings .direct);
+      zero = ap of (readings .nobody);
+      near = ap of (readings .near);
+      converged = ap of (readings .planless);
+      curvature = ap of (readings .bent);
+      limit = ap of (readings .unmarked);
+      not-solved = ap of (readings .tolerance);
+    }

@@ -150,11 +150,12 @@ fn lower(matrix: &BlockMatrix) -> Vec<Vec<Option<Matrix>>> {
     let n = matrix.num_rows();
     let mut lower = vec![vec![None; n]; n];
     for r in 0..n {
-        matrix.for_each_block_of_row(r as u32, |c, block| {
+        let shown = matrix.for_each_block_of_row(r as u32, |c, block| {
             if c as usize <= r {
                 lower[r][c as usize] = Some(*block);
             }
         });
+        assert_eq!(shown, Ok(()));
     }
     lower
 }
@@ -168,11 +169,12 @@ fn a_row_is_shown_as_the_source_reads_it() {
     // The particle adjacency, without the diagonal.
     let mut adjacency = vec![Vec::new(); 4];
     for (r, neighbors) in adjacency.iter_mut().enumerate() {
-        matrix.for_each_block_of_row(r as u32, |c, _| {
+        let shown = matrix.for_each_block_of_row(r as u32, |c, _| {
             if c as usize != r {
                 neighbors.push(c);
             }
         });
+        assert_eq!(shown, Ok(()));
     }
     assert_eq!(adjacency, [vec![2], vec![2], vec![0, 1, 3], vec![2]]);
     for (r, row) in lower(&matrix).iter().enumerate() {
@@ -182,5 +184,19 @@ fn a_row_is_shown_as_the_source_reads_it() {
             assert_eq!(*block, stored);
         }
     }
-    matrix.for_each_block_of_row(4, |_, _| unreachable!());
+}
+
+#[test]
+fn a_row_past_the_last_one_is_refused() {
+    let mut matrix = BlockMatrix::from_pairs(4, &[(0, 2), (2, 1), (3, 2)]).unwrap();
+    let shown =
+        |matrix: &BlockMatrix, row| matrix.for_each_block_of_row(row, |_, _| unreachable!());
+    assert_eq!(shown(&matrix, 4), Err(Refusal::OutOfRange));
+    assert_eq!(shown(&matrix, u32::MAX), Err(Refusal::OutOfRange));
+    assert_eq!(shown(&BlockMatrix::default(), 0), Err(Refusal::ShortBuffer));
+    // A value short, every row is refused, by the lowest number.
+    matrix.blocks.pop();
+    for row in 0..5 {
+        assert_eq!(shown(&matrix, row), Err(Refusal::ShortBuffer));
+    }
 }

@@ -15,7 +15,7 @@ enum-known-came c = search needs
 refuse-requires : tie.Need-refuse-requires
 refuse-requires c κs = c .before .before .before .before .before .before .before .before .before .before .before .before .before .before .before
     .before .before .before .before .before .before .before .before .before .before .before .before .before .before .before .before .before .before
-    .before .before .pre .1 .1 .1
+    .before .before .pre .1 .1 .1 .1
 
 enum-known-came-2 : tie.Need-enum-known-came-2
 enum-known-came-2 c = search needs
@@ -40,7 +40,7 @@ slice-read-wide c =
     let g = m .before .before .before .before .before .before .before .before .before .before .before .before .before .before .before .before in
     let p = g .before .before .before .before .before .before .before .before .before .before .before .before .before .before .before .before .before .pre in
     let w = g .sketch .ensures .done _ (m .came2 .given .1) in
-    omega (arith, w .ready .few, p .1 .0 .starts-room, g .sketch .kept .1 .1 .0)
+    omega (arith, w .ready .few, p .1 .1 .0 .starts-room, g .sketch .kept .1 .1 .0)
 
 wide-requires : tie.Need-wide-requires
 wide-requires c κs = search needs
@@ -58,7 +58,7 @@ slice-reshare-prefix-draw c =
     let g = m .before .before .before .before .before .before .before .before .before .before .before .before .before .before .before .before in
     let p = g .before .before .before .before .before .before .before .before .before .before .before .before .before .before .before .before .before .pre in
     let w = g .sketch .ensures .done _ (m .came2 .given .1) in
-    omega (arith, w .ready .few, p .1 .0 .starts-room, g .sketch .kept .1 .1 .0)
+    omega (arith, w .ready .few, p .1 .1 .0 .starts-room, g .sketch .kept .1 .1 .0)
 
 slice-aggregate-draw : tie.Need-slice-aggregate-draw
 slice-aggregate-draw c =
@@ -66,7 +66,7 @@ slice-aggregate-draw c =
     let g = m .before .before .before .before .before .before .before .before .before .before .before .before .before .before .before .before in
     let p = g .before .before .before .before .before .before .before .before .before .before .before .before .before .before .before .before .before .pre in
     let w = g .sketch .ensures .done _ (m .came2 .given .1) in
-    sym (length-take-le _ _ (omega (arith, w .ready .few, p .1 .0 .starts-room, g .sketch .kept .1 .1 .0)))
+    sym (length-take-le _ _ (omega (arith, w .ready .few, p .1 .1 .0 .starts-room, g .sketch .kept .1 .1 .0)))
 
 slice-reshare-prefix-draw-2 : tie.Need-slice-reshare-prefix-draw-2
 slice-reshare-prefix-draw-2 c =
@@ -88,7 +88,7 @@ slice-reshare-prefix-draw-3 c =
     let g = m .before .before .before .before .before .before .before .before .before .before .before .before .before .before .before .before in
     let p = g .before .before .before .before .before .before .before .before .before .before .before .before .before .before .before .before .before .pre in
     let w = g .sketch .ensures .done _ (m .came2 .given .1) in
-    omega (arith, w .ready .few, p .1 .0 .order-room, g .sketch .kept .1 .1 .1 .1 .1 .1 .0)
+    omega (arith, w .ready .few, p .1 .1 .0 .order-room, g .sketch .kept .1 .1 .1 .1 .1 .1 .0)
 
 slice-aggregate-draw-3 : tie.Need-slice-aggregate-draw-3
 slice-aggregate-draw-3 c =
@@ -96,7 +96,7 @@ slice-aggregate-draw-3 c =
     let g = m .before .before .before .before .before .before .before .before .before .before .before .before .before .before .before .before in
     let p = g .before .before .before .before .before .before .before .before .before .before .before .before .before .before .before .before .before .pre in
     let w = g .sketch .ensures .done _ (m .came2 .given .1) in
-    sym (length-take-le _ _ (omega (arith, w .ready .few, p .1 .0 .order-room, g .sketch .kept .1 .1 .1 .1 .1 .1 .0)))
+    sym (length-take-le _ _ (omega (arith, w .ready .few, p .1 .1 .0 .order-room, g .sketch .kept .1 .1 .1 .1 .1 .1 .0)))
 
 slice-reshare-prefix-draw-4 : tie.Need-slice-reshare-prefix-draw-4
 slice-reshare-prefix-draw-4 c =
@@ -104,7 +104,7 @@ slice-reshare-prefix-draw-4 c =
     let g = m .before .before .before .before .before .before .before .before .before .before .before .before .before .before .before .before in
     let p = g .before .before .before .before .before .before .before .before .before .before .before .before .before .before .before .before .before .pre in
     let w = g .sketch .ensures .done _ (m .came2 .given .1) in
-    omega (arith, w .ready .few, p .1 .1 .0, g .sketch .kept .1 .1 .1 .1 .1 .1 .1 .0)
+    omega (arith, w .ready .few, p .1 .1 .1 .0, g .sketch .kept .1 .1 .1 .1 .1 .1 .1 .0)
 
 slice-aggregate-draw-4 : tie.Need-slice-aggregate-draw-4
 slice-aggregate-draw-4 c =
@@ -112,7 +112,7 @@ slice-aggregate-draw-4 c =
     let g = m .before .before .before .before .before .before .before .before .before .before .before .before .before .before .before .before in
     let p = g .before .before .before .before .before .before .before .before .before .before .before .before .before .before .before .before .before .pre in
     let w = g .sketch .ensures .done _ (m .came2 .given .1) in
-    sym (length-take-le _ _ (omega (arith, w .ready .few, p .1 .1 .0, g .sketch .kept .1 .1 .1 .1 .1 .1 .1 .0)))
+    sym (length-take-le _ _ (omega (arith, w .ready .few, p .1 .1 .1 .0, g .sketch .kept .1 .1 .1 .1 .1 .1 .1 .0)))
 
 draw-requires : tie.Need-draw-requires
 draw-requires c κs =
@@ -120,7 +120,7 @@ draw-requires c κs =
     let g = m .before .before .before .before .before .before .before .before .before .before .before .before .before .before .before .before in
     let p = g .before .before .before .before .before .before .before .before .before .before .before .before .before .before .before .before .before .pre in
     let w = g .sketch .ensures .done _ (m .came2 .given .1) in
-    (rw (c .before .before .before .before .before .wide .ensures .same) (w .ready), p .1 .1 .1)
+    (rw (c .before .before .before .before .before .wide .ensures .same) (w .ready), p .1 .1 .1 .1)
 
 same-length : tie.Need-same-length
 same-length c = search needs

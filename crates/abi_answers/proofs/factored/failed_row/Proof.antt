@@ -1,4 +1,4 @@
--- Each arm is given that f is its variant, at which `rowOf` computes.
+-- Each arm is given that f is its variant, at which what it says computes.
 use borrow.Author.Needs.{needs}
 use Rattle.abi_answers.proofs.factored.failed_row.Statement.{statement}
 use Rattle.abi_answers.proofs.factored.failed_row.Tie as tie

@@ -1,7 +1,7 @@
 -- `abi_calls::solver::bracket_factorize` meets its contract. Assumes nothing.
 use mathlib.Core.Path.{refl}
 use Rattle.abi_answers.specs.Numbers.{told}
-use Rattle.abi_answers.specs.Direct.{same-places}
+use Rattle.abi_answers.specs.Telling.{same-factor}
 use borrow.Author.Needs.{needs}
 use Rattle.abi_calls.proofs.solver.bracket_factorize.Statement.{statement}
 use Rattle.abi_calls.proofs.solver.bracket_factorize.Tie as tie
@@ -30,7 +30,7 @@ returns c =
     let w = p .before in
     let h = w .before .before in
     told _ _ _ _ _ _ _ _ _ _ (h .before .before .before .before .factorize .ensures) refl (c .factored-number .ensures)
-    (same-places _ _ _ _ _ _ (h .factored-how .ensures) (w .failed-row .ensures) (p .failed-pivot .ensures))
+    (same-factor _ _ _ _ _ _ (h .factored-how .ensures) (w .failed-row .ensures) (p .failed-pivot .ensures))
 
 pub bracket-factorize-spec : {M : Type 1} → statement M
 bracket-factorize-spec =

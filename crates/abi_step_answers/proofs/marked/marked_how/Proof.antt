@@ -1,4 +1,4 @@
--- Each arm is given that m is its variant, at which `howOf` computes.
+-- Each arm is given that m is its variant, at which what it says computes.
 use borrow.Author.Needs.{needs}
 use Rattle.abi_step_answers.proofs.marked.marked_how.Statement.{statement}
 use Rattle.abi_step_answers.proofs.marked.marked_how.Tie as tie

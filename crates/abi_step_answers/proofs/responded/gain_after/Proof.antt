@@ -1,4 +1,4 @@
--- Each arm is given that r is its variant, at which `gainOf` computes.
+-- Each arm is given that r is its variant, at which what it says computes.
 use borrow.Author.Needs.{needs}
 use Rattle.abi_step_answers.proofs.responded.gain_after.Statement.{statement}
 use Rattle.abi_step_answers.proofs.responded.gain_after.Tie as tie

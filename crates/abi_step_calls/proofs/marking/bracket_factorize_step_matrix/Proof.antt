@@ -1,7 +1,7 @@
 -- `abi_step_calls::marking::bracket_factorize_step_matrix` meets its contract. Assumes nothing.
 use mathlib.Core.Path.{refl}
 use Rattle.abi_answers.specs.Numbers.{told}
-use Rattle.abi_answers.specs.Direct.{same-places}
+use Rattle.abi_answers.specs.Telling.{same-factor}
 use borrow.Author.Needs.{needs}
 use Rattle.abi_step_calls.proofs.marking.bracket_factorize_step_matrix.Statement.{statement}
 use Rattle.abi_step_calls.proofs.marking.bracket_factorize_step_matrix.Tie as tie
@@ -35,7 +35,7 @@ returns c =
     let w = p .before in
     let h = w .before .before in
     told _ _ _ _ _ _ _ _ _ _ (h .before .before .before .before .before .before .factorize-step-matrix .ensures) refl (c .marked-number .ensures)
-    (same-places _ _ _ _ _ _ (h .marked-how .ensures) (w .failed-row .ensures) (p .failed-pivot .ensures))
+    (same-factor _ _ _ _ _ _ (h .marked-how .ensures) (w .failed-row .ensures) (p .failed-pivot .ensures))
 
 pub bracket-factorize-step-matrix-spec : {M : Type 1} → statement M
 bracket-factorize-step-matrix-spec =

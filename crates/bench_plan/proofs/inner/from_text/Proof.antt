@@ -51,8 +51,8 @@ returns : tie.Need-returns
 returns c =
     let i = c .before in
     let g = i .before .before .before .before in
-    read-refused _ _ _ _ _ _ _ _ (g .read .result) (g .before .before .before .before .before .before .before .before .before .before .pre .0)
-    (g .read .ensures) (i .input .given .1)
+    read-refused _ _ _ _ (g .read .result) (g .before .before .before .before .before .before .before .before .before .before .pre .0)
+    (g .read .ensures) (i .input .given .1) _ _ _ _
 
 same-length-2 : tie.Need-same-length-2
 same-length-2 c = search needs

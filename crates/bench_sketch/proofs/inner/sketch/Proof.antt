@@ -1,8 +1,13 @@
 -- `bench_sketch::inner::sketch` meets its contract. Assumes nothing.
+use mathlib.Core.Path.{sym}
+use lib.Seq.{length-take-le}
 use Rattle.bench_sketch.specs.Sketch.{sketched-none, sketched}
 use borrow.Author.Needs.{needs}
 use Rattle.bench_sketch.proofs.inner.sketch.Statement.{statement}
 use Rattle.bench_sketch.proofs.inner.sketch.Tie as tie
+
+slice-aggregate-from-text : tie.Need-slice-aggregate-from-text
+slice-aggregate-from-text c = sym (length-take-le _ _ (c .before .before .before .before .before .before .before .before .before .pre .0 .within))
 
 from-text-requires : tie.Need-from-text-requires
 from-text-requires c κs = search needs
@@ -38,7 +43,7 @@ returns : tie.Need-returns
 returns c =
     let m = c .before in
     let g = m .before .before .before .before .before .before .before .before .before .before .before .before .before .before .before .before in
-    sketched-none _ _ _ _ _ (g .from-text .result) (g .from-text .ensures) _ (m .came .given .1)
+    sketched-none _ _ (g .before .before .before .before .before .before .before .before .before .before .before .before .before .before .before .before .before .pre .0) _ _ _ _ (g .from-text .result) (g .from-text .ensures) _ (m .came .given .1)
 
 same-length-8 : tie.Need-same-length-8
 same-length-8 c = search needs
@@ -65,12 +70,13 @@ returns-2 : tie.Need-returns-2
 returns-2 c =
     let m = c .before in
     let g = m .before .before .before .before .before .before .before .before .before .before .before .before .before .before .before .before in
-    sketched _ _ _ _ _ (g .from-text .result) (g .from-text .ensures) _ _ (m .came2 .given .1)
+    sketched _ _ (g .before .before .before .before .before .before .before .before .before .before .before .before .before .before .before .before .before .pre .0) _ _ _ _ (g .from-text .result) (g .from-text .ensures) _ _ (m .came2 .given .1)
 
 pub sketch-spec : {M : Type 1} → statement M
 sketch-spec =
     tie.close
     (tie.spec
+    slice-aggregate-from-text
     from-text-requires
     enum-known-came
     enum-known-came-2

@@ -1,0 +1,2 @@
+mod RowReadings
+mod Readings

@@ -1,0 +1,5 @@
+mod OfFactorize
+mod OfStepMatrix
+mod OfSolve
+pub mod Whole
+mod Readings

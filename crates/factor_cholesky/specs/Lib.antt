@@ -1,0 +1,3 @@
+pub mod Factorize
+pub mod StepMatrix
+pub mod Solve

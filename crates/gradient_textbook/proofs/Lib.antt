@@ -1,0 +1,4 @@
+mod Run
+mod Solve
+mod Exists
+pub mod Whole
