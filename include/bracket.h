@@ -4,7 +4,8 @@
  *
  * WHAT A CALLER OWES. The proofs begin behind these points; all else is tested by the calls themselves.
  *  - A list is a pointer and the number of its items, named ..._len. The pointer is valid for that many items (to read,
- *    and to write where it isn't const), aligned for its type, and never null, even if the length is 0.
+ *    and to write where it isn't const) and aligned for its type. A list of length 0 may be null: no pairs, no particles, no
+ *    entries, or a list that isn't needed. Any other is never null.
  *  - A list or place that a call may write shares no memory with any other argument. Lists that are only read may.
  *  - A pointer without a length is a place: one item, or seven for `counts`. It is never null.
  *  - A bool is 0 or 1.
@@ -14,21 +15,22 @@
  * WHAT IS ANSWERED. A uint8_t is 0 if the call was accepted, and else the refusal's number, the lowest that applies. A
  * refusal leaves every list and place as it was; the two exceptions (7 of bracket_plan, and the counts) are named below.
  *
- * LENGTHS. A list may be longer than needed; its rest is never touched. A work list may hold anything before the call. Its
- * needed part is zeros after an accepted one.
+ * HOW A FUNCTION IS DESCRIBED. `reads` are lists that are only read, `writes` lists that are written, `work` lists that may hold
+ * anything before the call and are zeros after an accepted one, `tells` places. Behind a list's name stands how many items it
+ * needs. It may be longer; its rest is never touched. A shorter one is refusal 3.
  *
  * A VECTOR is two floats for each particle, x and y. A BLOCK is four: column 0's two, then column 1's two.
  *
  * A PATTERN is the number of particles n and three lists: row_offsets (n + 1), cols (one for each block) and diagonal (n).
  * Its block count B is row_offsets[n] as it stands. It is well formed when the row offsets begin at 0 and rise; the columns
  * rise strictly within a row and are below n; each row has its diagonal block, at the slot recorded in `diagonal`; and block
- * (r, c) is stored whenever (c, r) is. Lists that are too short are refused with 3, a pattern that isn't well formed with 5.
+ * (r, c) is stored whenever (c, r) is.
  *
  * A PLAN is four lists: perm (n; position to particle), inv_perm (n; particle to position), first (2n; each row's first
  * column) and row_start (2n + 1; where each row begins in the factor). The factor's length L is row_start[2n] as it stands.
  * It fits a pattern when perm and inv_perm undo each other over 0 .. n - 1; both rows of position i have the same even first
  * column, at most 2i; the row starts begin at 0 and grow by row - first + 1; and every stored block on or below the diagonal
- * lies inside. A plan that doesn't fit is refused with 6, an L above 16,384 with 7.
+ * lies inside.
  */
 #ifndef BRACKET_H
 #define BRACKET_H
@@ -40,6 +42,38 @@
 #ifdef __cplusplus
 extern "C" {
 #endif
+
+/* An answer that nobody looks at is a warning, where the compiler has one. */
+#if defined(__cplusplus) && __cplusplus >= 201703L
+#define BRACKET_MUST_USE [[nodiscard]]
+#elif defined(__GNUC__)
+#define BRACKET_MUST_USE __attribute__((warn_unused_result))
+#else
+#define BRACKET_MUST_USE
+#endif
+
+/* What a model may hold; more is refused, by the number behind it. */
+#define BRACKET_MAX_PARTICLES 1024  /* 1 */
+#define BRACKET_MAX_PAIRS 4096      /* 2 */
+#define BRACKET_MAX_ENTRIES 16      /* 2, of a response */
+#define BRACKET_MAX_ENVELOPE 16384  /* 7 */
+#define BRACKET_MAX_ITERATIONS 4096 /* 8 */
+
+/* From this sum of its counts on a tally stays. Add them up in 64 bits. */
+#define BRACKET_TALLY_CAP 4000000000u
+
+/*
+ * How many items a list needs for n particles and their pairs; constant if n and pairs are. Once a pattern is built, cols needs
+ * B and blocks 4 B. Once it is planned, the factor's values need L, which is at most BRACKET_MAX_ENVELOPE.
+ */
+#define BRACKET_ROOM_PAIRS(pairs) (2 * (size_t)(pairs))                 /* pairs; building's work list */
+#define BRACKET_ROOM_ROW_OFFSETS(n) ((size_t)(n) + 1)                   /* row_offsets */
+#define BRACKET_ROOM_COLS(n, pairs) ((size_t)(n) + 2 * (size_t)(pairs)) /* cols, to build in */
+#define BRACKET_ROOM_BLOCKS(n, pairs) (4 * BRACKET_ROOM_COLS(n, pairs)) /* blocks, to build in */
+#define BRACKET_ROOM_PARTICLES(n) ((size_t)(n))                         /* diagonal, perm, inv_perm, pinned, marks; planning's work lists */
+#define BRACKET_ROOM_VECTOR(n) (2 * (size_t)(n))                        /* b, x, out and every work list of floats; first */
+#define BRACKET_ROOM_ROW_START(n) (2 * (size_t)(n) + 1)                 /* row_start */
+#define BRACKET_ROOM_PRECONDITIONER(n) (4 * (size_t)(n))                /* preconditioner */
 
 /* A refusal's number, and when it is given. Each call below lists those that it can give. */
 enum bracket_refusal {
@@ -84,43 +118,95 @@ enum bracket_count {
     BRACKET_COUNTS
 };
 
-/* What bracket_block_index finds where the pattern stores no block, and bracket_row_col past a row's end. */
+/* What bracket_block_index and bracket_row_slot find where no block is stored, and bracket_row_col past a row's end. */
 #define BRACKET_ABSENT UINT32_MAX
+
+/* ---- The numbers in words, never null: for a message, or a log. A number that isn't one of the enum's has words too. ---- */
+
+/* Of a call's answer. 9 is given by the bench program alone. */
+static inline const char *bracket_refusal_text(uint8_t refusal) {
+    switch (refusal) {
+    case BRACKET_ACCEPTED: return "accepted";
+    case BRACKET_TOO_MANY_PARTICLES: return "more than 1,024 particles";
+    case BRACKET_TOO_MANY_ENTRIES: return "more than 4,096 pairs or 16 response entries";
+    case BRACKET_SHORT_BUFFER: return "a lent buffer is shorter than the call needs";
+    case BRACKET_OUT_OF_RANGE: return "a pair of different numbers has one at n or above; or a row or particle asked for is at n or above";
+    case BRACKET_BAD_PATTERN: return "a pattern isn't well formed";
+    case BRACKET_BAD_PLAN: return "a plan doesn't fit its pattern";
+    case BRACKET_LONG_ENVELOPE: return "the envelope needs more than 16,384 entries";
+    case BRACKET_BAD_SETTINGS: return "the tolerance isn't finite and at least zero, or more than 4,096 iterations";
+    case 9: return "program text isn't as described";
+    default: return "no refusal has this number";
+    }
+}
+
+/* Of what a factorization wrote to *how. */
+static inline const char *bracket_factored_text(uint32_t how) {
+    switch (how) {
+    case BRACKET_FACTORED: return "factored";
+    case BRACKET_FAILED: return "failed: a pivot wasn't above zero, or was NaN";
+    case BRACKET_UNFACTORED: return "not tried: 2n is above max_dense_dofs";
+    default: return "no factorization comes out by this number";
+    }
+}
+
+/* Of what a solve wrote to *how. What wasn't solved says so. */
+static inline const char *bracket_outcome_text(uint32_t how) {
+    switch (how) {
+    case BRACKET_DIRECT: return "solved by the factor";
+    case BRACKET_ZERO: return "solved: b's squared length is 0, and x is zeros";
+    case BRACKET_NEAR: return "solved: the first residual was within the threshold";
+    case BRACKET_CONVERGED: return "solved: the residual came within the threshold";
+    case BRACKET_CURVATURE: return "not solved: a denominator wasn't above zero, or was NaN; x was rescaled";
+    case BRACKET_LIMIT: return "not solved: all iterations were made; x was rescaled";
+    case BRACKET_NOTHING: return "nothing to solve: no entry was left";
+    default: return "no solve ends by this number";
+    }
+}
 
 /* ---- Plane numbers. Every operation is rounded on its own, none is fused. ---- */
 
 /* The square root, correctly rounded. A zero's is that zero, +infinity's is +infinity, NaN's and that of a number below zero NaN. */
-float bracket_root(float x);
+BRACKET_MUST_USE float bracket_root(float x);
 
 /* ux * vx + uy * vy. */
-float bracket_dot(float ux, float uy, float vx, float vy);
+BRACKET_MUST_USE float bracket_dot(float ux, float uy, float vx, float vy);
 
 /* c0x * c1y - c1x * c0y. */
-float bracket_determinant(float c0x, float c0y, float c1x, float c1y);
+BRACKET_MUST_USE float bracket_determinant(float c0x, float c0y, float c1x, float c1y);
 
 /*
  * The block times the vector (vx, vy).
- * Needs: out 2. Refuses: 3. Accepted: out's first 2 floats are the product.
+ *   writes    out 2
+ *   refuses   3 a list is short
+ *   accepted  out's first 2 floats are the product
+ *   refused   out is as it was
  */
-uint8_t bracket_times(float c0x, float c0y, float c1x, float c1y, float vx, float vy, float *out, size_t out_len);
+BRACKET_MUST_USE uint8_t bracket_times(float c0x, float c0y, float c1x, float c1y, float vx, float vy, float *out, size_t out_len);
 
 /*
  * The block's inverse, by the reciprocal of its determinant, whatever that is.
- * Needs: out 4. Refuses: 3. Accepted: out's first 4 floats are the inverse.
+ *   writes    out 4
+ *   refuses   3 a list is short
+ *   accepted  out's first 4 floats are the inverse
+ *   refused   out is as it was
  */
-uint8_t bracket_inverse(float c0x, float c0y, float c1x, float c1y, float *out, size_t out_len);
+BRACKET_MUST_USE uint8_t bracket_inverse(float c0x, float c0y, float c1x, float c1y, float *out, size_t out_len);
 
 /* ---- The block matrix ---- */
 
 /*
  * Builds the pattern of n particles with a block for each particle and two for each pair, and zeroed values. `pairs` holds
  * count pairs, two numbers each, in either order; repeats and equal pairs add nothing, even an equal pair at n or above.
- * Needs: pairs 2 count, row_offsets n + 1, cols n + 2 count, diagonal n, blocks 4 (n + 2 count), work 2 count.
- * Refuses: 1; 2 if count is above 4,096; 3; 4 if a pair of different numbers has one at n or above.
- * Accepted: row_offsets, cols and diagonal are the pattern's, with zeros in cols from the block count to n + 2 count; blocks
- * are zeros, all 4 (n + 2 count); work's first 2 count places are zeros. The block count is row_offsets[n].
+ *   reads     pairs 2 count
+ *   writes    row_offsets n + 1, cols n + 2 count, diagonal n, blocks 4 (n + 2 count)
+ *   work      work 2 count
+ *   refuses   1 n is above 1,024; 2 count is above 4,096; 3 a list is short; 4 a pair of different numbers has one at n or above
+ *   accepted  row_offsets, cols and diagonal are the pattern's, the block count is row_offsets[n], and cols from there to
+ *             n + 2 count are zeros; blocks are zeros, all 4 (n + 2 count)
+ *   refused   every list is as it was
  */
-uint8_t bracket_from_pairs(
+BRACKET_MUST_USE uint8_t bracket_from_pairs(
     size_t n, size_t count,
     const uint32_t *pairs, size_t pairs_len,
     uint32_t *row_offsets, size_t row_offsets_len,
@@ -129,8 +215,17 @@ uint8_t bracket_from_pairs(
     float *blocks, size_t blocks_len,
     uint32_t *work, size_t work_len);
 
-/* The same without values. */
-uint8_t bracket_pattern_from_pairs(
+/*
+ * Builds the same pattern without values.
+ *   reads     pairs 2 count
+ *   writes    row_offsets n + 1, cols n + 2 count, diagonal n
+ *   work      work 2 count
+ *   refuses   1 n is above 1,024; 2 count is above 4,096; 3 a list is short; 4 a pair of different numbers has one at n or above
+ *   accepted  row_offsets, cols and diagonal are the pattern's, the block count is row_offsets[n], and cols from there to
+ *             n + 2 count are zeros
+ *   refused   every list is as it was
+ */
+BRACKET_MUST_USE uint8_t bracket_pattern_from_pairs(
     size_t n, size_t count,
     const uint32_t *pairs, size_t pairs_len,
     uint32_t *row_offsets, size_t row_offsets_len,
@@ -139,11 +234,14 @@ uint8_t bracket_pattern_from_pairs(
     uint32_t *work, size_t work_len);
 
 /*
- * The slot of block (row, col).
- * Needs: the pattern. Refuses: 1; 3; 4 if row is at n or above; 5.
- * Accepted: *slot is the slot, or BRACKET_ABSENT, for any col. The block's values are the 4 floats at 4 slot.
+ * The slot of block (row, col). The block's values are the 4 floats of blocks at 4 slot.
+ *   reads     row_offsets n + 1, cols B, diagonal n
+ *   tells     slot
+ *   refuses   1 n is above 1,024; 3 a list is short; 4 row is at n or above; 5 the pattern isn't well formed
+ *   accepted  *slot is the slot, or BRACKET_ABSENT, for any col
+ *   refused   *slot is as it was
  */
-uint8_t bracket_block_index(
+BRACKET_MUST_USE uint8_t bracket_block_index(
     size_t n,
     const uint32_t *row_offsets, size_t row_offsets_len,
     const uint32_t *cols, size_t cols_len,
@@ -152,9 +250,13 @@ uint8_t bracket_block_index(
 
 /*
  * The slot of row's diagonal block.
- * Needs: the pattern. Refuses: 1; 3; 4 if row is at n or above; 5. Accepted: *slot is the slot.
+ *   reads     row_offsets n + 1, cols B, diagonal n
+ *   tells     slot
+ *   refuses   1 n is above 1,024; 3 a list is short; 4 row is at n or above; 5 the pattern isn't well formed
+ *   accepted  *slot is the slot
+ *   refused   *slot is as it was
  */
-uint8_t bracket_diagonal_index(
+BRACKET_MUST_USE uint8_t bracket_diagonal_index(
     size_t n,
     const uint32_t *row_offsets, size_t row_offsets_len,
     const uint32_t *cols, size_t cols_len,
@@ -163,32 +265,56 @@ uint8_t bracket_diagonal_index(
 
 /*
  * One row of a pattern: the slot of its first block, how many blocks it has, and the column of its j-th block, whose slot is the
- * first one's and j more.
- * Needs: row_offsets n + 1, cols B. Refuses: 1; 3; 4 if row is at n or above. Not 5: no diagonal is handed and one row is read.
- * Accepted: *first, *len or *col is written. A row whose bounds fall, or whose end passes B, has first slot 0 and no block. The column
- * is BRACKET_ABSENT past the row's end. What stands past n + 1 row offsets and B columns is never shown.
+ * first one's and j more. No diagonal is handed and one row is read, so that no pattern is refused by 5.
+ *   reads     row_offsets n + 1, cols B
+ *   tells     first, len or col
+ *   refuses   1 n is above 1,024; 3 a list is short; 4 row is at n or above
+ *   accepted  *first, *len or *col is written. A row whose bounds fall, or whose end passes B, has first slot 0 and no block. The
+ *             column is BRACKET_ABSENT past the row's end. What stands past n + 1 row offsets and B columns is never shown
+ *   refused   *first, *len or *col is as it was
  */
-uint8_t bracket_row_first(
+BRACKET_MUST_USE uint8_t bracket_row_first(
     size_t n,
     const uint32_t *row_offsets, size_t row_offsets_len,
     const uint32_t *cols, size_t cols_len,
     size_t row, size_t *first);
-uint8_t bracket_row_len(
+BRACKET_MUST_USE uint8_t bracket_row_len(
     size_t n,
     const uint32_t *row_offsets, size_t row_offsets_len,
     const uint32_t *cols, size_t cols_len,
     size_t row, size_t *len);
-uint8_t bracket_row_col(
+BRACKET_MUST_USE uint8_t bracket_row_col(
     size_t n,
     const uint32_t *row_offsets, size_t row_offsets_len,
     const uint32_t *cols, size_t cols_len,
     size_t row, size_t j, uint32_t *col);
 
 /*
- * Zeroes every block.
- * Needs: the pattern, blocks 4 B. Refuses: 1, 3, 5. Accepted: blocks' first 4 B floats are zeros.
+ * The slot of row's block with the column col. bracket_block_index tests the whole pattern, this one the row's bounds alone: for
+ * slots in a loop over a pattern that is known to be good.
+ *   reads     row_offsets n + 1, cols B; no diagonal, so 5 isn't given
+ *   tells     slot
+ *   refuses   1 n is above 1,024; 3 a list is short; 4 row is at n or above
+ *   accepted  *slot is the slot, or BRACKET_ABSENT, for any col. Over a well formed pattern it is bracket_block_index's; of a row
+ *             whose columns don't rise it is a slot that has the column, or BRACKET_ABSENT though one may have it. A row whose
+ *             bounds fall, or whose end passes B, has no block. What stands past n + 1 row offsets and B columns is never read
+ *   refused   *slot is as it was
  */
-uint8_t bracket_clear_values(
+BRACKET_MUST_USE uint8_t bracket_row_slot(
+    size_t n,
+    const uint32_t *row_offsets, size_t row_offsets_len,
+    const uint32_t *cols, size_t cols_len,
+    size_t row, uint32_t col, uint32_t *slot);
+
+/*
+ * Zeroes every block.
+ *   reads     row_offsets n + 1, cols B, diagonal n
+ *   writes    blocks 4 B
+ *   refuses   1 n is above 1,024; 3 a list is short; 5 the pattern isn't well formed
+ *   accepted  blocks' first 4 B floats are zeros
+ *   refused   blocks are as they were
+ */
+BRACKET_MUST_USE uint8_t bracket_clear_values(
     size_t n,
     const uint32_t *row_offsets, size_t row_offsets_len,
     const uint32_t *cols, size_t cols_len,
@@ -197,10 +323,13 @@ uint8_t bracket_clear_values(
 
 /*
  * out = A x.
- * Needs: the pattern, blocks 4 B, x 2n, out 2n. Refuses: 1, 3, 5.
- * Accepted: out's first 2n floats are the product, each row summed slot by slot from +0.0.
+ *   reads     row_offsets n + 1, cols B, diagonal n, blocks 4 B, x 2n
+ *   writes    out 2n
+ *   refuses   1 n is above 1,024; 3 a list is short; 5 the pattern isn't well formed
+ *   accepted  out's first 2n floats are the product, each row summed slot by slot from +0.0
+ *   refused   out is as it was
  */
-uint8_t bracket_mul(
+BRACKET_MUST_USE uint8_t bracket_mul(
     size_t n,
     const uint32_t *row_offsets, size_t row_offsets_len,
     const uint32_t *cols, size_t cols_len,
@@ -211,9 +340,13 @@ uint8_t bracket_mul(
 
 /*
  * Pins a particle: the identity at row's diagonal, zeros in the rest of the row and in its mirrors.
- * Needs: the pattern, blocks 4 B. Refuses: 1; 3; 4 if row is at n or above; 5. Accepted: those blocks alone are written.
+ *   reads     row_offsets n + 1, cols B, diagonal n
+ *   writes    blocks 4 B
+ *   refuses   1 n is above 1,024; 3 a list is short; 4 row is at n or above; 5 the pattern isn't well formed
+ *   accepted  those blocks alone are written
+ *   refused   blocks are as they were
  */
-uint8_t bracket_make_dirichlet(
+BRACKET_MUST_USE uint8_t bracket_make_dirichlet(
     size_t n,
     const uint32_t *row_offsets, size_t row_offsets_len,
     const uint32_t *cols, size_t cols_len,
@@ -221,16 +354,35 @@ uint8_t bracket_make_dirichlet(
     size_t row,
     float *blocks, size_t blocks_len);
 
+/*
+ * Pins every marked particle, as bracket_make_dirichlet does one after the other. A mark is a byte, zero if the particle is free.
+ *   reads     row_offsets n + 1, cols B, diagonal n, marks n
+ *   writes    blocks 4 B
+ *   refuses   1 n is above 1,024; 3 a list is short; 5 the pattern isn't well formed
+ *   accepted  a marked row's diagonal block is the identity, any other block in a marked row or column is zeros; those blocks
+ *             alone are written
+ *   refused   blocks are as they were
+ */
+BRACKET_MUST_USE uint8_t bracket_make_dirichlet_marked(
+    size_t n,
+    const uint32_t *row_offsets, size_t row_offsets_len,
+    const uint32_t *cols, size_t cols_len,
+    const uint32_t *diagonal, size_t diagonal_len,
+    const uint8_t *marks, size_t marks_len,
+    float *blocks, size_t blocks_len);
+
 /* ---- The direct solver ---- */
 
 /*
  * Plans the factor: the reverse Cuthill-McKee order and the envelope under it.
- * Needs: the pattern; perm n, inv_perm n, first 2n, row_start 2n + 1; n for each of the five work lists degrees, placed,
- * mark, level and queue. Refuses: 1; 3; 5; 7 if the envelope needs more than 16,384 entries.
- * Accepted: the plan; it fits the pattern, and row_start[2n] is the envelope's length. The work lists' first n places are
- * zeros, after refusal 7 too, which leaves the plan's lists as they were.
+ *   reads     row_offsets n + 1, cols B, diagonal n
+ *   writes    perm n, inv_perm n, first 2n, row_start 2n + 1
+ *   work      degrees n, placed n, mark n, level n, queue n
+ *   refuses   1 n is above 1,024; 3 a list is short; 5 the pattern isn't well formed; 7 the envelope needs more than 16,384 entries
+ *   accepted  the four lists are the plan; it fits the pattern, and row_start[2n] is the envelope's length
+ *   refused   every list is as it was, but that 7 leaves the work lists' first n places zeros
  */
-uint8_t bracket_plan(
+BRACKET_MUST_USE uint8_t bracket_plan(
     size_t n,
     const uint32_t *row_offsets, size_t row_offsets_len,
     const uint32_t *cols, size_t cols_len,
@@ -247,12 +399,16 @@ uint8_t bracket_plan(
 
 /*
  * The Cholesky factor of the matrix in the plan's order.
- * Needs: the pattern, blocks 4 B, the plan, values L. Refuses: 1, 3, 5, 6, 7.
- * Accepted: values' first L floats are the factor, row by row; *how is BRACKET_FACTORED. Or *how is BRACKET_FAILED, and *row
- * and *pivot tell the row and the pivot that ended it; then the rows before are finished, that row is but for its diagonal,
- * and that and the later rows are as loaded. A whole factor leaves *row and *pivot as they were.
+ *   reads     row_offsets n + 1, cols B, diagonal n, blocks 4 B, perm n, inv_perm n, first 2n, row_start 2n + 1
+ *   writes    values L
+ *   tells     how, row, pivot
+ *   refuses   1 n is above 1,024; 3 a list is short; 5 the pattern isn't well formed; 6 the plan doesn't fit it; 7 L is above 16,384
+ *   accepted  values' first L floats are the factor, row by row; *how is BRACKET_FACTORED, *row and *pivot are as they were. Or
+ *             *how is BRACKET_FAILED, and *row and *pivot tell the row and the pivot that ended it; then the rows before are
+ *             finished, that row is but for its diagonal, and that and the later rows are as loaded
+ *   refused   values and the three places are as they were
  */
-uint8_t bracket_factorize(
+BRACKET_MUST_USE uint8_t bracket_factorize(
     size_t n,
     const uint32_t *row_offsets, size_t row_offsets_len,
     const uint32_t *cols, size_t cols_len,
@@ -266,11 +422,15 @@ uint8_t bracket_factorize(
     uint32_t *how, size_t *row, float *pivot);
 
 /*
- * Solves A x = b by the factor as it stands.
- * Needs: the plan, values L, b 2n, x 2n, scratch 2n (a work list). Refuses: 1; 3; 6 by the plan's rules that ask for no
- * pattern; 7. Accepted: x's first 2n floats are the solution.
+ * Solves A x = b by the values as they stand, which are A's factor only if bracket_factorize told BRACKET_FACTORED.
+ *   reads     perm n, inv_perm n, first 2n, row_start 2n + 1, values L, b 2n
+ *   writes    x 2n
+ *   work      scratch 2n
+ *   refuses   1 n is above 1,024; 3 a list is short; 6 the plan breaks one of its rules that ask for no pattern; 7 L is above 16,384
+ *   accepted  x's first 2n floats are the solution
+ *   refused   every list is as it was
  */
-uint8_t bracket_solve(
+BRACKET_MUST_USE uint8_t bracket_solve(
     size_t n,
     const uint32_t *perm, size_t perm_len,
     const uint32_t *inv_perm, size_t inv_perm_len,
@@ -286,10 +446,13 @@ uint8_t bracket_solve(
 /*
  * The preconditioner: each diagonal block's inverse, or the identity if an entry of that isn't finite. Call it after every
  * change of the matrix.
- * Needs: the pattern, blocks 4 B, preconditioner 4n. Refuses: 1, 3, 5.
- * Accepted: preconditioner's first 4n floats are those blocks.
+ *   reads     row_offsets n + 1, cols B, diagonal n, blocks 4 B
+ *   writes    preconditioner 4n
+ *   refuses   1 n is above 1,024; 3 a list is short; 5 the pattern isn't well formed
+ *   accepted  preconditioner's first 4n floats are those blocks
+ *   refused   the preconditioner is as it was
  */
-uint8_t bracket_update_preconditioner(
+BRACKET_MUST_USE uint8_t bracket_update_preconditioner(
     size_t n,
     const uint32_t *row_offsets, size_t row_offsets_len,
     const uint32_t *cols, size_t cols_len,
@@ -299,13 +462,18 @@ uint8_t bracket_update_preconditioner(
 
 /*
  * Solves A x = b from the guess in x, until the residual's length is at most the tolerance times b's.
- * Needs: the pattern, blocks 4 B, preconditioner 4n, b 2n, x 2n; the work lists residual, direction, a_direction and z 2n
- * each. Refuses: 1; 3; 5; 8 if the tolerance isn't finite or is below zero, or max_iterations is above 4,096.
- * Accepted: x's first 2n floats are what the solve came to; *how is BRACKET_ZERO to BRACKET_LIMIT, *count the iterations made,
- * *norm the running residual's squared length (+0.0 for BRACKET_ZERO), *denominator that of BRACKET_CURVATURE (+0.0 for the
- * others).
+ *   reads     row_offsets n + 1, cols B, diagonal n, blocks 4 B, preconditioner 4n, b 2n
+ *   writes    x 2n
+ *   work      residual 2n, direction 2n, a_direction 2n, z 2n
+ *   tells     how, count, residual_squared, denominator
+ *   refuses   1 n is above 1,024; 3 a list is short; 5 the pattern isn't well formed; 8 the tolerance isn't finite or is below
+ *             zero, or max_iterations is above 4,096
+ *   accepted  x's first 2n floats are what the solve came to; *how is BRACKET_ZERO to BRACKET_LIMIT, *count the iterations made,
+ *             *residual_squared the running residual's squared length (+0.0 for BRACKET_ZERO), *denominator that of
+ *             BRACKET_CURVATURE (+0.0 for the others)
+ *   refused   every list and place is as it was
  */
-uint8_t bracket_conjugate_gradient(
+BRACKET_MUST_USE uint8_t bracket_conjugate_gradient(
     size_t n,
     const uint32_t *row_offsets, size_t row_offsets_len,
     const uint32_t *cols, size_t cols_len,
@@ -319,24 +487,29 @@ uint8_t bracket_conjugate_gradient(
     float *direction, size_t direction_len,
     float *a_direction, size_t a_direction_len,
     float *z, size_t z_len,
-    uint32_t *how, size_t *count, float *norm, float *denominator);
+    uint32_t *how, size_t *count, float *residual_squared, float *denominator);
 
 /*
  * ---- The step: the factor where it pays, the conjugate gradient elsewhere ----
  *
- * Where 2n is above max_dense_dofs, plan, values and scratch are neither needed, tested nor written, and 6 and 7 aren't
- * given. Elsewhere the lists of both routes are needed, whichever is taken.
+ * A step is dense where 2n is at most max_dense_dofs. Lists marked 'if dense' are needed only there, and there on either route;
+ * elsewhere they are neither tested, read nor written, and may be empty, and so null.
  */
 
 /*
  * Factors the step's matrix, and updates the preconditioner if there is no whole factor.
- * Needs: the pattern, blocks 4 B, preconditioner 4n; the plan and values L where 2n is at most max_dense_dofs.
- * Refuses: 1, 3, 5, 6, 7.
- * Accepted, *how is BRACKET_FACTORED: values hold the factor, the preconditioner is as it was. BRACKET_FAILED: values, *row and
- * *pivot as bracket_factorize leaves them, the preconditioner is updated. BRACKET_UNFACTORED: 2n is above max_dense_dofs, values
- * are as they were, the preconditioner is updated. But for a failure *row and *pivot are as they were.
+ *   reads     row_offsets n + 1, cols B, diagonal n, blocks 4 B; if dense perm n, inv_perm n, first 2n, row_start 2n + 1
+ *   writes    preconditioner 4n; if dense values L
+ *   tells     how, row, pivot
+ *   refuses   1 n is above 1,024; 3 a list is short; 5 the pattern isn't well formed; if dense 6 the plan doesn't fit it and 7 L
+ *             is above 16,384
+ *   accepted  *how is BRACKET_FACTORED: values' first L floats are the factor, the preconditioner is as it was. BRACKET_FAILED:
+ *             values, *row and *pivot are as bracket_factorize leaves them after a failure, the preconditioner's first 4n floats
+ *             are those of bracket_update_preconditioner. BRACKET_UNFACTORED, if not dense: values are as they were, the
+ *             preconditioner is updated likewise. But for a failure *row and *pivot are as they were
+ *   refused   both lists and the three places are as they were
  */
-uint8_t bracket_factorize_step_matrix(
+BRACKET_MUST_USE uint8_t bracket_factorize_step_matrix(
     size_t n,
     const uint32_t *row_offsets, size_t row_offsets_len,
     const uint32_t *cols, size_t cols_len,
@@ -352,18 +525,24 @@ uint8_t bracket_factorize_step_matrix(
     uint32_t *how, size_t *row, float *pivot);
 
 /*
- * Solves A x = b by the factor if 2n is at most max_dense_dofs and `factored` is true; otherwise x is zeroed and iterated.
- * `factored`, values and preconditioner are taken as they stand: hand over whether bracket_factorize_step_matrix told
- * BRACKET_FACTORED, and what it left.
- * Needs: the pattern, blocks 4 B, preconditioner 4n, b 2n, x 2n; the work lists residual, direction, a_direction and z 2n
- * each; where 2n is at most max_dense_dofs also the plan, values L and the work list scratch 2n.
- * Refuses: 1, 3, 5, 6, 7, 8; the settings are tested on either route.
- * Accepted: x's first 2n floats are the solution, or what the iteration came to. *how is BRACKET_DIRECT (then *count is 0, and
- * *norm and *denominator are +0.0) or the outcome, told as by bracket_conjugate_gradient.
- * The tally: one is added to the count of what happened, `refused` after a refusal, unless the seven already add up to
- * 4,000,000,000 or more. Begin with seven zeros.
+ * Solves A x = b by the factor if the step is dense and `factored` is true; otherwise x is zeroed and iterated. `factored`,
+ * values and preconditioner are taken as they stand: hand over whether bracket_factorize_step_matrix told BRACKET_FACTORED, and
+ * what it left.
+ *   reads     row_offsets n + 1, cols B, diagonal n, blocks 4 B, preconditioner 4n, b 2n; if dense perm n, inv_perm n, first 2n,
+ *             row_start 2n + 1, values L
+ *   writes    x 2n
+ *   work      residual 2n, direction 2n, a_direction 2n, z 2n; if dense scratch 2n
+ *   tells     counts, how, count, residual_squared, denominator
+ *   refuses   1 n is above 1,024; 3 a list is short; 5 the pattern isn't well formed; if dense 6 the plan doesn't fit it and 7 L
+ *             is above 16,384; 8 the tolerance isn't finite or is below zero, or max_iterations is above 4,096, on either route
+ *   accepted  x's first 2n floats are the solution, or what the iteration came to. *how is BRACKET_DIRECT, *count 0 and
+ *             *residual_squared and *denominator +0.0; or *how is BRACKET_ZERO to BRACKET_LIMIT, *count the iterations made,
+ *             *residual_squared the running residual's squared length (+0.0 for BRACKET_ZERO), *denominator that of
+ *             BRACKET_CURVATURE (+0.0 for the others). The count of what happened is one more
+ *   refused   every list and the four places behind the counts are as they were. The count of refused calls is one more
+ * The counts stay where the seven already add up to BRACKET_TALLY_CAP or more. Begin with seven zeros.
  */
-uint8_t bracket_solve_step(
+BRACKET_MUST_USE uint8_t bracket_solve_step(
     size_t n,
     const uint32_t *row_offsets, size_t row_offsets_len,
     const uint32_t *cols, size_t cols_len,
@@ -385,20 +564,31 @@ uint8_t bracket_solve_step(
     float *a_direction, size_t a_direction_len,
     float *z, size_t z_len,
     uint32_t counts[BRACKET_COUNTS],
-    uint32_t *how, size_t *count, float *norm, float *denominator);
+    uint32_t *how, size_t *count, float *residual_squared, float *denominator);
 
 /*
  * The answer to a constraint: the gradients of its unpinned entries, added up for each particle, are the right-hand side of
  * a step solve into `out`, and the gain is their product with it. `pinned` has a byte for each particle, zero if it is free;
- * entry e is particle particles[e] with the gradient at 2e.
- * Needs: as bracket_solve_step with out for x and rhs, a work list, for b; pinned n, particles `entries`, gradients
- * 2 `entries`. Refuses: 1; 2 if entries is above 16; 3; 4 if an entry's particle is at n or above, pinned or not; 5, 6, 7, 8.
- * Accepted: out's first 2n floats are the solution; *gain is the gain, +0.0 if it isn't above zero or is NaN; *how, *count,
- * *norm and *denominator tell of the step solve as above. If no entry is left, out is zeros, *gain +0.0, *how
- * BRACKET_NOTHING, *count 0, and *norm and *denominator are +0.0.
- * The tally: as above; a response with no entry left adds nothing.
+ * entry e is particle particles[e] with the gradient at 2e. `factored`, values and preconditioner are taken as they stand, and
+ * the solve is by the factor if the step is dense and `factored` is true.
+ *   reads     row_offsets n + 1, cols B, diagonal n, blocks 4 B, preconditioner 4n, pinned n, particles `entries`, gradients
+ *             2 `entries`; if dense perm n, inv_perm n, first 2n, row_start 2n + 1, values L
+ *   writes    out 2n
+ *   work      rhs 2n, residual 2n, direction 2n, a_direction 2n, z 2n; if dense scratch 2n
+ *   tells     counts, gain, how, count, residual_squared, denominator
+ *   refuses   1 n is above 1,024; 2 entries is above 16; 3 a list is short; 4 an entry's particle is at n or above, pinned or
+ *             not; 5 the pattern isn't well formed; if dense 6 the plan doesn't fit it and 7 L is above 16,384; 8 the tolerance
+ *             isn't finite or is below zero, or max_iterations is above 4,096, on either route
+ *   accepted  out's first 2n floats are the solution, or what the iteration came to; *gain is the gain, +0.0 if it isn't above
+ *             zero or is NaN. *how is BRACKET_DIRECT, *count 0 and *residual_squared and *denominator +0.0; or *how is
+ *             BRACKET_ZERO to BRACKET_LIMIT, *count the iterations made, *residual_squared the running residual's squared length
+ *             (+0.0 for BRACKET_ZERO), *denominator that of BRACKET_CURVATURE (+0.0 for the others). The count of what happened
+ *             is one more. If no entry is left, out is zeros, *how BRACKET_NOTHING, *count 0, *gain, *residual_squared and
+ *             *denominator +0.0, and the counts are as they were
+ *   refused   every list and the five places behind the counts are as they were. The count of refused calls is one more
+ * The counts stay where the seven already add up to BRACKET_TALLY_CAP or more. Begin with seven zeros.
  */
-uint8_t bracket_response_into(
+BRACKET_MUST_USE uint8_t bracket_response_into(
     size_t n,
     const uint32_t *row_offsets, size_t row_offsets_len,
     const uint32_t *cols, size_t cols_len,
@@ -424,7 +614,7 @@ uint8_t bracket_response_into(
     float *a_direction, size_t a_direction_len,
     float *z, size_t z_len,
     uint32_t counts[BRACKET_COUNTS],
-    float *gain, uint32_t *how, size_t *count, float *norm, float *denominator);
+    float *gain, uint32_t *how, size_t *count, float *residual_squared, float *denominator);
 
 #ifdef __cplusplus
 }

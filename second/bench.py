@@ -1,5 +1,5 @@
 #!/usr/bin/env python3
-"""The bench program of document 01 a second time. `answer`: a text in, its answer out. `table FOLDER`: the texts of benchtexts.py into FOLDER/data, their names
+"""The bench program of RULES.md § 9 once more. `answer`: a text in, its answer out. `table FOLDER`: the texts of benchtexts.py into FOLDER/data, their names
 into FOLDER/args and their answers into FOLDER/stdout. `hold COMMAND..`: runs the command on each text and holds what it writes to the answer."""
 
 import pathlib

@@ -41,7 +41,7 @@ def random_pairs(seed, n, count):
 
 
 def readings():
-    """Document 01's."""
+    """Those of docs/RULES.md § 11."""
     return {
         "none": b"0 0",
         "one": b"1 0\n",

@@ -73,6 +73,8 @@ def accepted(draw, word, graph, rest):
         call |= {"factored": pick(draw, [0, 1]), "counts": pick(draw, COUNTS)}
     if "entries" in numbers:
         call |= constraint(draw, n, rest)
+    if "marks" in lists:
+        call["marks"] = marks(draw, n + rest)
     call |= {name: call.get(name, []) for name in lists}
     for name, need in rules.needs(call).items():
         if name in lists and name != "counts":
@@ -80,10 +82,15 @@ def accepted(draw, word, graph, rest):
     return call
 
 
+def marks(draw, length):
+    """Any bytes; zero means free."""
+    return [pick(draw, [0, 0, 1, 255]) for _ in range(length)]
+
+
 def constraint(draw, n, rest):
-    """Marks of any byte, and entries whose particles may be repeated."""
+    """Marks, and entries whose particles may be repeated."""
     entries = pick(draw, [1, 2, 3]) if n else 0
-    pinned = [pick(draw, [0, 0, 1, 255]) for _ in range(n + rest)]
+    pinned = marks(draw, n + rest)
     return {"entries": entries, "pinned": pinned, "particles": [int(draw.random() * n) for _ in range(entries)]}
 
 

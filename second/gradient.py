@@ -6,7 +6,7 @@ import matrix
 import plane
 from plane import minus, over, plus, times
 
-# By document 01's order of the outcomes.
+# By the outcomes' numbers (docs/RULES.md, module 5).
 ZERO, NEAR, CONVERGED, CURVATURE, LIMIT = 1, 2, 3, 4, 5
 
 

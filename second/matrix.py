@@ -53,13 +53,28 @@ def diagonal_index(call):
     return call["diagonal"][call["row"]]
 
 
-def row(call):
-    """The row's columns; none, from slot 0, where its bounds fall or pass the last row offset."""
+def bounds(call):
+    """The row's first slot and its end; 0 and 0 where they fall or pass the last row offset."""
     first, end = call["row_offsets"][call["row"] : call["row"] + 2]
-    if not first <= end <= call["row_offsets"][call["n"]]:
-        first = end = 0
+    return (first, end) if first <= end <= call["row_offsets"][call["n"]] else (0, 0)
+
+
+def row(call):
+    """The row's columns."""
+    first, end = bounds(call)
     call["shown"] = call["cols"][first:end]
     return first
+
+
+def row_slot(call):
+    """By halves: of so many slots the middle one, rounded down, is where the search goes on if its column isn't past the one asked for."""
+    first, end = bounds(call)
+    count = end - first
+    while count > 1:
+        middle = first + count // 2
+        first = middle if call["cols"][middle] <= call["col"] else first
+        count -= count // 2
+    return first if count and call["cols"][first] == call["col"] else NOWHERE
 
 
 def clear_values(call):
@@ -88,6 +103,16 @@ def make_dirichlet(call):
     blocks[4 * k : 4 * k + 4] = IDENTITY
 
 
+def make_dirichlet_marked(call):
+    """Block by block, whatever the order of pinning: in a marked row or column a block is zero, but the identity on the diagonal."""
+    marks, blocks = call["marks"], call["blocks"]
+    for r in range(call["n"]):
+        for k in slots(call, r):
+            c = call["cols"][k]
+            if marks[r] or marks[c]:
+                blocks[4 * k : 4 * k + 4] = IDENTITY if c == r else ZERO
+
+
 WORK = {
     "from_pairs": from_pairs,
     "pattern_from_pairs": pattern_from_pairs,
@@ -96,5 +121,7 @@ WORK = {
     "clear_values": clear_values,
     "mul": mul,
     "make_dirichlet": make_dirichlet,
+    "make_dirichlet_marked": make_dirichlet_marked,
     "row": row,
+    "row_slot": row_slot,
 }

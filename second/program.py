@@ -1,5 +1,5 @@
 #!/usr/bin/env python3
-"""The plane numbers, the block matrix, the plan, the direct solve, the conjugate gradient and the step of document 01 a second
+"""The plane numbers, the block matrix, the plan, the direct solve, the conjugate gradient and the step of the rules a second
 time. `answer`: case lines in, answer lines out. `cases SEED`: damaged input."""
 
 import sys

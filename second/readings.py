@@ -1,5 +1,5 @@
 #!/usr/bin/env python3
-"""Document 01's readings without a star, of the second program: status 1 if one comes out otherwise."""
+"""The readings without a star (docs/RULES.md § 11), of the second program: status 1 if one comes out otherwise."""
 
 import struct
 import sys
@@ -38,8 +38,8 @@ def main():
     differ += [f"entries of {name}" for name, count in ENTRIES.items() if bench.entries(texts[name]) != count]
     differ += [f"root of {bits:#x}" for bits, root in ROOTS.items() if root_of(bits) != root]
     for name in differ:
-        print(f"readings: {name}: not document 01's")
-    print(f"readings: {len(LAST) + len(ENTRIES) + len(ROOTS)} of document 01, {len(differ)} differ")
+        print(f"readings: {name}: not as in RULES.md § 11")
+    print(f"readings: {len(LAST) + len(ENTRIES) + len(ROOTS)} of RULES.md § 11, {len(differ)} differ")
     return bool(differ)
 
 

@@ -1,4 +1,4 @@
-"""Document 01's refusals, as far as the block matrix, planning, the direct solve, the conjugate gradient and the step meet them."""
+"""The refusals (docs/RULES.md § 3), as far as the block matrix, planning, the direct solve, the conjugate gradient and the step meet them."""
 
 import math
 
@@ -29,7 +29,7 @@ def needs(call):
         room = n + 2 * count
         starts = {"pairs": 2 * count, "row_offsets": n + 1, "cols": room, "diagonal": n}
         return starts | {"blocks": 4 * room, "work": 2 * count}
-    long = dict.fromkeys(PLAN + WORK, n) | {"first": 2 * n, "row_start": 2 * n + 1}
+    long = dict.fromkeys([*PLAN, *WORK, "marks"], n) | {"first": 2 * n, "row_start": 2 * n + 1}
     long |= dict.fromkeys([*VECTORS, "out", "rhs", "scratch"], 2 * n) | {"preconditioner": 4 * n}
     if "entries" in call:
         long |= {"pinned": n, "particles": call["entries"], "gradients": 2 * call["entries"]}

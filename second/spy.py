@@ -64,4 +64,5 @@ def main(words):
         sys.exit("usage: spy.py answer | spy.py hold COMMAND..")
 
 
-main(sys.argv[1:])
+if __name__ == "__main__":
+    main(sys.argv[1:])

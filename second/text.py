@@ -27,6 +27,7 @@ SHAPES = {
     "mul": (["n"], [*PATTERN, "blocks", "x", "out"], ["out"]),
     "make_dirichlet": (["n", "row"], [*PATTERN, "blocks"], ["blocks"]),
     "row": (["n", "row"], PATTERN[:2], ["shown"]),
+    "row_slot": (["n", "row", "col"], PATTERN[:2], []),
     "plan": (["n"], [*PATTERN, *PLAN, *WORK], [*PLAN, *WORK]),
     "factorize": (["n"], [*PATTERN, "blocks", *PLAN, "values"], ["values"]),
     "solve": (["n"], [*PLAN, "values", "b", "x", "scratch"], ["x", "scratch"]),
@@ -35,10 +36,11 @@ SHAPES = {
     "factorize_step_matrix": (["n", "max_dense_dofs"], MODEL, MODEL[-2:]),
     "solve_step": (SETTINGS, [*MODEL, "b", *STEPPED], [*STEPPED, *TOLD]),
     "response_into": ([*SETTINGS, "entries"], [*MODEL, "pinned", "particles", "gradients", *RESPONDED], [*RESPONDED, *TOLD]),
+    "make_dirichlet_marked": (["n"], [*PATTERN, "marks", "blocks"], ["blocks"]),
 }
 
 # Rows have no stored cases: the comparison draws them.
-STORED = [word for word in SHAPES if word != "row"]
+STORED = [word for word in SHAPES if word not in ("row", "row_slot")]
 
 
 def lists(call):

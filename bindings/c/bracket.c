@@ -1,4 +1,4 @@
-/* Calls the proved functions from C: the readings, then a bracket solved on both routes. */
+/* Calls the proved functions from C: the header, the readings, empty lists, then a bracket solved on both routes. */
 #include "model.h"
 
 #include <stdio.h>
@@ -76,7 +76,7 @@ static void solve_bracket(void) {
     EXPECT(lack(&m) < 1e-6f);
     EXPECT(factor_step(&m, 7) == BRACKET_UNFACTORED);
     EXPECT(solve_step(&m, true, 0.001f, 7, counts, &t) == 0 && t.how == BRACKET_CONVERGED && t.count > 0);
-    EXPECT(lack(&m) < 1e-5f && t.norm < 1e-5f);
+    EXPECT(lack(&m) < 1e-5f && t.residual_squared < 1e-5f);
     EXPECT(solve_step(&m, true, -1, 8, counts, &t) == BRACKET_BAD_SETTINGS && t.how == BRACKET_CONVERGED);
     EXPECT(respond(&m, 2, &gain, counts, &t) == 0 && t.how == BRACKET_DIRECT && gain > 0);
     EXPECT(respond(&m, 1, &gain, counts, &t) == 0 && t.how == BRACKET_NOTHING && gain == 0 && m.x[4] == 0);
@@ -84,9 +84,12 @@ static void solve_bracket(void) {
     EXPECT(same(counts, (const uint32_t[]){2, 0, 0, 1, 0, 0, 2}, BRACKET_COUNTS));
 }
 
-int main(void) {
+/* The word handed in says how the program was built. */
+int main(int words, char **word) {
+    read_header();
     read_all();
+    lend_nothing();
     solve_bracket();
-    printf("bindings: from C, %d facts asked for, %d do not hold\n", facts, failures);
+    printf("bindings: from C%s%s, %d facts asked for, %d do not hold\n", words > 1 ? " " : "", words > 1 ? word[1] : "", facts, failures);
     return failures != 0;
 }

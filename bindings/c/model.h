@@ -4,7 +4,7 @@
 
 #include "bracket.h"
 
-enum { PARTICLES = 6, PAIRS = 6, BLOCKS = PARTICLES + 2 * PAIRS, DOFS = 2 * PARTICLES, ENVELOPE = 128 };
+enum { PARTICLES = 6, PAIRS = 6, DOFS = BRACKET_ROOM_VECTOR(PARTICLES), ENVELOPE = 128 };
 
 /* A list as a pointer and a length. */
 #define LENT(list) (list), sizeof(list) / sizeof *(list)
@@ -13,24 +13,25 @@ enum { PARTICLES = 6, PAIRS = 6, BLOCKS = PARTICLES + 2 * PAIRS, DOFS = 2 * PART
 #define PATTERN(m) LENT((m)->row_offsets), LENT((m)->cols), LENT((m)->diagonal)
 #define PLAN(m) LENT((m)->perm), LENT((m)->inv_perm), LENT((m)->first), LENT((m)->row_start)
 #define WORK(m) LENT((m)->residual), LENT((m)->direction), LENT((m)->a_direction), LENT((m)->z)
-#define TOLD(t) &(t)->how, &(t)->count, &(t)->norm, &(t)->denominator
+#define TOLD(t) &(t)->how, &(t)->count, &(t)->residual_squared, &(t)->denominator
 
 #define EXPECT(fact) expect((fact), #fact, __FILE__, __LINE__)
 
 struct model {
     size_t n;
-    uint32_t row_offsets[PARTICLES + 1], cols[BLOCKS], diagonal[PARTICLES], building[2 * PAIRS];
-    float blocks[4 * BLOCKS];
-    uint32_t perm[PARTICLES], inv_perm[PARTICLES], first[DOFS], row_start[DOFS + 1];
+    uint32_t row_offsets[BRACKET_ROOM_ROW_OFFSETS(PARTICLES)], cols[BRACKET_ROOM_COLS(PARTICLES, PAIRS)], diagonal[PARTICLES];
+    uint32_t building[BRACKET_ROOM_PAIRS(PAIRS)];
+    float blocks[BRACKET_ROOM_BLOCKS(PARTICLES, PAIRS)];
+    uint32_t perm[PARTICLES], inv_perm[PARTICLES], first[DOFS], row_start[BRACKET_ROOM_ROW_START(PARTICLES)];
     uint32_t degrees[PARTICLES], placed[PARTICLES], mark[PARTICLES], level[PARTICLES], queue[PARTICLES];
-    float values[ENVELOPE], preconditioner[4 * PARTICLES];
+    float values[ENVELOPE], preconditioner[BRACKET_ROOM_PRECONDITIONER(PARTICLES)];
     float b[DOFS], x[DOFS], scratch[DOFS], residual[DOFS], direction[DOFS], a_direction[DOFS], z[DOFS];
 };
 
 struct told {
     uint32_t how;
     size_t count;
-    float norm, denominator;
+    float residual_squared, denominator;
 };
 
 /* Counts a fact, and says where it stands if it doesn't hold. */
@@ -46,7 +47,13 @@ uint8_t plan(struct model *m);
 
 bool same(const uint32_t *list, const uint32_t *wanted, size_t count);
 
-/* Document 01's starred readings, and refused calls (readings.c). */
+/* The starred readings (docs/RULES.md, section 11), marked particles pinned, and refused calls (readings.c). */
 void read_all(void);
+
+/* What the header itself says: limits, lengths and words (header.c). */
+void read_header(void);
+
+/* Every call with lists that are empty, and null (empty.c). */
+void lend_nothing(void);
 
 #endif

@@ -1,4 +1,4 @@
-/* Document 01's starred readings, and refused calls. */
+/* The starred readings (docs/RULES.md, section 11), marked particles pinned, and refused calls. */
 #include "model.h"
 
 /* One particle with this block. */
@@ -54,6 +54,23 @@ static void read_row(const struct model *m) {
     EXPECT(bracket_row_col(2, LENT(m->row_offsets), LENT(m->cols), 1, 2, &col) == 0 && col == BRACKET_ABSENT);
 }
 
+/* A slot of the same rows, found without a test of the pattern; and of a row whose columns don't rise. */
+static void read_slot(const struct model *m) {
+    const uint32_t *starts = m->row_offsets, *cols = m->cols, falling[] = {4, 7, 2}, all[] = {0, 3};
+    uint32_t slot = 7;
+    EXPECT(bracket_row_slot(1025, starts, 0, cols, 0, 1025, 0, &slot) == BRACKET_TOO_MANY_PARTICLES);
+    EXPECT(bracket_row_slot(2, starts, 3, cols, 3, 2, 0, &slot) == BRACKET_SHORT_BUFFER);
+    EXPECT(bracket_row_slot(2, starts, 2, cols, 4, 2, 0, &slot) == BRACKET_SHORT_BUFFER);
+    EXPECT(bracket_row_slot(2, LENT(m->row_offsets), LENT(m->cols), 2, 0, &slot) == BRACKET_OUT_OF_RANGE);
+    EXPECT(bracket_row_slot(2, LENT(m->row_offsets), LENT(m->cols), SIZE_MAX, 0, &slot) == BRACKET_OUT_OF_RANGE);
+    EXPECT(slot == 7);
+    EXPECT(bracket_row_slot(2, starts, 3, cols, 4, 1, 0, &slot) == 0 && slot == 2);
+    EXPECT(bracket_row_slot(2, LENT(m->row_offsets), LENT(m->cols), 1, 1, &slot) == 0 && slot == 3);
+    EXPECT(bracket_row_slot(2, starts, 3, cols, 4, 1, 5, &slot) == 0 && slot == BRACKET_ABSENT);
+    EXPECT(bracket_row_slot(1, LENT(all), LENT(falling), 0, 4, &slot) == 0 && slot == 0);
+    EXPECT(bracket_row_slot(1, LENT(all), LENT(falling), 0, 7, &slot) == 0 && slot == BRACKET_ABSENT);
+}
+
 static void read_patterns(void) {
     const uint32_t repeats[] = {0, 1, 1, 0, 0, 1, 1, 1}, ghost[] = {9, 9}, outside[] = {0, 2};
     struct model m;
@@ -72,6 +89,7 @@ static void read_patterns(void) {
     EXPECT(bracket_diagonal_index(2, PATTERN(&m), 1, &slot) == 0 && slot == 3);
     EXPECT(bracket_diagonal_index(2, PATTERN(&m), 2, &slot) == BRACKET_OUT_OF_RANGE && slot == 3);
     read_row(&m);
+    read_slot(&m);
 }
 
 static void read_factors(void) {
@@ -113,11 +131,11 @@ static void read_iterations(void) {
     EXPECT(t.how == BRACKET_CONVERGED && t.count == 1 && m.x[0] == 3 && m.x[1] == 4);
     t = iterate(&m, 1, 3, 4, 0);
     EXPECT(t.how == BRACKET_LIMIT && t.count == 0 && m.x[0] == 0 && m.x[1] == 0);
-    EXPECT(t.norm == 25);
+    EXPECT(t.residual_squared == 25);
     t = iterate(&m, -1, 1, 0, 5);
     EXPECT(t.how == BRACKET_CURVATURE && t.count == 0 && t.denominator == -1);
     t = iterate(&m, 1, 0, 0, 5);
-    EXPECT(t.how == BRACKET_ZERO && t.norm == 0 && t.denominator == 0);
+    EXPECT(t.how == BRACKET_ZERO && t.residual_squared == 0 && t.denominator == 0);
     EXPECT(bracket_conjugate_gradient(
         1, PATTERN(&m), LENT(m.blocks), LENT(m.preconditioner), LENT(m.b), -1, 5, LENT(m.x), WORK(&m), TOLD(&t)) == BRACKET_BAD_SETTINGS);
     EXPECT(t.how == BRACKET_ZERO);
@@ -150,6 +168,27 @@ static void read_refusals(void) {
     EXPECT(bracket_solve(3, PLAN(&m), LENT(m.values), LENT(m.b), LENT(m.x), LENT(m.scratch)) == BRACKET_BAD_PLAN);
 }
 
+/* A chain of three, whose blocks hold sevens: the first and the last marked; then refusals, which leave the blocks as they are. */
+static void read_pins(void) {
+    const uint32_t chain[] = {0, 1, 1, 2};
+    const uint8_t ends[] = {1, 0, 255}, all[] = {1, 1, 1};
+    struct model m;
+    EXPECT(build(&m, 3, 2, chain) == 0);
+    for (size_t k = 0; k < 29; k++) m.blocks[k] = 7;
+    EXPECT(bracket_make_dirichlet_marked(3, PATTERN(&m), LENT(ends), LENT(m.blocks)) == 0);
+    for (size_t slot = 0; slot < 7; slot++) {
+        const float own = slot == 0 || slot == 6 ? 1 : slot == 3 ? 7 : 0, beside = slot == 3 ? 7 : 0;
+        EXPECT(m.blocks[4 * slot] == own && m.blocks[4 * slot + 3] == own);
+        EXPECT(m.blocks[4 * slot + 1] == beside && m.blocks[4 * slot + 2] == beside);
+    }
+    EXPECT(bracket_make_dirichlet_marked(1025, PATTERN(&m), LENT(all), LENT(m.blocks)) == BRACKET_TOO_MANY_PARTICLES);
+    EXPECT(bracket_make_dirichlet_marked(3, PATTERN(&m), all, 2, LENT(m.blocks)) == BRACKET_SHORT_BUFFER);
+    EXPECT(bracket_make_dirichlet_marked(3, PATTERN(&m), LENT(all), m.blocks, 27) == BRACKET_SHORT_BUFFER);
+    m.cols[5] = 0;
+    EXPECT(bracket_make_dirichlet_marked(3, PATTERN(&m), LENT(all), LENT(m.blocks)) == BRACKET_BAD_PATTERN);
+    EXPECT(m.blocks[12] == 7 && m.blocks[28] == 7);
+}
+
 void read_all(void) {
     read_plans();
     read_patterns();
@@ -157,4 +196,5 @@ void read_all(void) {
     read_iterations();
     read_plane();
     read_refusals();
+    read_pins();
 }

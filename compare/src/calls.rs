@@ -12,7 +12,7 @@ use oracle::draw::Draw;
 use oracle::graphs;
 
 /// How many turns graphs of at most so many particles take, for each operation.
-const SIZES: [(usize, usize); 3] = [(3000, 10), (200, 100), (20, 1024)];
+pub const SIZES: [(usize, usize); 3] = [(3000, 10), (200, 100), (20, 1024)];
 
 /// Damaged calls of each operation, over graphs of at most so many particles. Every tenth is left
 /// whole, so that the second program and the Rust are held against each other too.
@@ -66,6 +66,12 @@ fn compare_whole(draw: &mut Draw, operation: Operation) -> usize {
     judged.close(", accepted, every list to its end")
 }
 
+/// Calls of one operation, most of them damaged.
+pub fn damaged_calls(draw: &mut Draw, operation: Operation) -> Vec<Call> {
+    let calls = (0..DAMAGED).map(|turn| damaged(draw, operation, turn));
+    calls.collect()
+}
+
 fn damaged(draw: &mut Draw, operation: Operation, turn: usize) -> Call {
     let graph = graphs::drawn(draw, turn, DAMAGED_SIZE);
     let mut call = accepted(draw, operation, &graph, turn);
@@ -78,8 +84,7 @@ fn damaged(draw: &mut Draw, operation: Operation, turn: usize) -> Call {
 fn compare_damaged(draw: &mut Draw) -> usize {
     let calls = MATRIX
         .into_iter()
-        .flat_map(|operation| (0..DAMAGED).map(move |turn| (operation, turn)))
-        .map(|(operation, turn)| damaged(draw, operation, turn))
+        .flat_map(|operation| damaged_calls(draw, operation))
         .collect();
     beside_second("damaged calls", calls)
 }

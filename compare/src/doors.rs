@@ -3,6 +3,7 @@
 use crate::lend::UNTOUCHED;
 use crate::sys::c::*;
 use crate::{endings, step};
+use oracle::blocks::bytes;
 use oracle::call::Operation::*;
 use oracle::call::{Call, Left};
 
@@ -56,6 +57,7 @@ pub fn made(call: &mut Call) -> (u8, Places) {
             (MakeDirichlet, &[n, row], [row_offsets, cols, diagonal, blocks]) => {
                 lend!(bracket_make_dirichlet(n; row_offsets, cols, diagonal; row; blocks))
             }
+            (MakeDirichletMarked, ..) => return (pin_marked(call), LENT),
             (Plan, &[n], [r, c, d, perm, inv_perm, first, row_start, work @ ..]) => {
                 let [degrees, placed, mark, level, queue] = work else {
                     unreachable!("planning has five work lists")
@@ -86,6 +88,24 @@ pub fn made(call: &mut Call) -> (u8, Places) {
         pivot,
     };
     (refused, places)
+}
+
+/// The marks are handed on as bytes, and must stay.
+fn pin_marked(call: &mut Call) -> u8 {
+    let before = bytes(&call.lists[3]);
+    let mut marks = before.clone();
+    let refused = make_dirichlet_marked(call, &mut marks);
+    assert!(before == marks, "a mark was written: {}", call.line());
+    refused
+}
+
+pub fn make_dirichlet_marked(call: &mut Call, marks: &mut [u8]) -> u8 {
+    match (&call.numbers[..], &mut call.lists[..]) {
+        (&[n], [row_offsets, cols, diagonal, _, blocks]) => unsafe {
+            lend!(bracket_make_dirichlet_marked(n; row_offsets, cols, diagonal, marks, blocks;;))
+        },
+        _ => unreachable!("a call has the numbers and lists of its operation"),
+    }
 }
 
 /// The row and pivot of a failed factorization. A whole one leaves its places as they were.

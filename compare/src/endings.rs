@@ -9,7 +9,7 @@ use oracle::call::{Call, Left};
 pub struct Places {
     pub how: u32,
     pub count: usize,
-    pub norm: u32,
+    pub residual_squared: u32,
     pub denominator: u32,
 }
 
@@ -17,7 +17,7 @@ pub struct Places {
 const LENT: Places = Places {
     how: UNTOUCHED,
     count: UNTOUCHED as usize,
-    norm: UNTOUCHED,
+    residual_squared: UNTOUCHED,
     denominator: UNTOUCHED,
 };
 
@@ -26,7 +26,8 @@ pub fn made(call: &mut Call) -> (u8, Places) {
     let Places {
         mut how, mut count, ..
     } = LENT;
-    let [mut norm, mut denominator] = [LENT.norm, LENT.denominator].map(f32::from_bits);
+    let [mut residual_squared, mut denominator] =
+        [LENT.residual_squared, LENT.denominator].map(f32::from_bits);
     let refused = match (&call.numbers[..], &mut call.lists[..]) {
         (
             &[n, limit, tolerance],
@@ -35,16 +36,16 @@ pub fn made(call: &mut Call) -> (u8, Places) {
             let tolerance = f32::from_bits(tolerance as u32);
             unsafe {
                 lend!(bracket_conjugate_gradient(n; r, c, d, blocks, p, b; tolerance, limit; x, residual, direction, a_direction, z;
-                    &mut how, &mut count, &mut norm, &mut denominator;))
+                    &mut how, &mut count, &mut residual_squared, &mut denominator;))
             }
         }
         _ => unreachable!("a solve has three numbers and eleven lists"),
     };
-    let [norm, denominator] = [norm, denominator].map(f32::to_bits);
+    let [residual_squared, denominator] = [residual_squared, denominator].map(f32::to_bits);
     let to = Places {
         how,
         count,
-        norm,
+        residual_squared,
         denominator,
     };
     (refused, to)
@@ -63,7 +64,7 @@ pub fn left(call: &mut Call) -> Left {
 /// The two lists. What an outcome doesn't carry must be +0.0, and a refusal must leave the places: otherwise
 /// all four are shown, and differ. A direct solve and a response that asked for none carry nothing.
 pub fn told(refused: u8, to: Places) -> [Vec<u32>; 2] {
-    let floats = [to.norm, to.denominator];
+    let floats = [to.residual_squared, to.denominator];
     let carried = match to.how {
         0 | 1 | 6 => 0,
         4 => 2,

@@ -13,6 +13,9 @@ declared! {
     fn inside_make_dirichlet(
         n: usize, row_offsets: &[u32], cols: &[u32], diagonal: &[u32], row: usize, blocks: &mut [f32]
     );
+    fn inside_make_dirichlet_marked(
+        n: usize, row_offsets: &[u32], cols: &[u32], diagonal: &[u32], marks: &[u8], blocks: &mut [f32]
+    );
     fn inside_well_formed(n: usize, m: usize, row_offsets: &[u32], cols: &[u32], diagonal: &[u32]) -> bool;
     fn inside_plan(
         row_offsets: &[u32], cols: &[u32], perm: &mut [u32], inv_perm: &mut [u32], first: &mut [u32],
@@ -74,6 +77,15 @@ pub fn make_dirichlet(call: &mut Call) {
     match (&call.numbers[..], &mut call.lists[..]) {
         (&[n, row], [row_offsets, cols, diagonal, blocks]) => unsafe {
             lend!(inside_make_dirichlet(n; row_offsets, cols, diagonal; row; blocks));
+        },
+        _ => unreachable!("{SHAPE}"),
+    }
+}
+
+pub fn make_dirichlet_marked(call: &mut Call, marks: &mut [u8]) {
+    match (&call.numbers[..], &mut call.lists[..]) {
+        (&[n], [row_offsets, cols, diagonal, _, blocks]) => unsafe {
+            lend!(inside_make_dirichlet_marked(n; row_offsets, cols, diagonal, marks, blocks;;));
         },
         _ => unreachable!("{SHAPE}"),
     }

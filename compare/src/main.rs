@@ -16,6 +16,7 @@ mod ends;
 mod gradients;
 mod inside;
 mod judge;
+mod marks;
 mod met;
 mod planes;
 mod plans;
@@ -26,12 +27,14 @@ mod rules;
 mod rust;
 mod second;
 mod sides;
+mod slots;
 mod starts;
 mod step;
 mod step_times;
 mod steps;
 mod tallies;
 mod times;
+mod wrapper;
 
 use judge::compare;
 use oracle::draw::Draw;
@@ -82,6 +85,7 @@ fn gate(sides: &Sides, draw: &mut Draw) -> usize {
 /// Times differ from run to run, so they are told and never count as differences.
 fn times(draw: &mut Draw) -> usize {
     times::report(draw);
+    wrapper::times(draw);
     plans::times(draw);
     direct::times(draw);
     gradients::times(draw);
@@ -108,7 +112,10 @@ fn calls(draw: &mut Draw) -> usize {
         + steps::compare(draw)
         + tallies::compare(draw)
         + rows::compare(draw)
+        + slots::compare(draw)
         + rules::compare(draw)
+        + marks::compare(draw)
+        + wrapper::compare(draw)
 }
 
 /// Beside the processor's own instruction: what the Rust calls.

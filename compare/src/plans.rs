@@ -28,7 +28,7 @@ const PAST: usize = 4;
 /// Graphs are made whose start moves up to so many times.
 const MADE: usize = 6;
 
-/// Document 01's readings of graphs that are too large to be computed in a proof: how many entries they have.
+/// The readings (docs/RULES.md § 11) of graphs that are too large to be computed in a proof: how many entries they have.
 const READINGS: [(fn(usize) -> Graph, usize, usize); 3] = [
     (graphs::chain, 1024, 7_164),
     (graphs::complete, 90, 16_290),
@@ -131,7 +131,7 @@ fn compare_rust(draw: &mut Draw) -> usize {
     for (shape, n, entries) in READINGS {
         let graph = shape(n);
         judge(draw, &mut judged, &mut met, &graph);
-        assert_eq!(limits::envelope(&graph), entries, "document 01's reading");
+        assert_eq!(limits::envelope(&graph), entries, "a reading of the rules");
     }
     for entries in ENVELOPE..=ENVELOPE + PAST {
         for turn in 0..LIMIT {

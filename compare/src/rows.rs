@@ -17,20 +17,20 @@ const ANY: usize = 20_000;
 const PLACES: u32 = 7;
 
 /// What the call is handed. The lists may be longer than needed.
-struct Asked {
-    n: usize,
-    starts: Vec<u32>,
-    cols: Vec<u32>,
-    row: usize,
+pub struct Asked {
+    pub n: usize,
+    pub starts: Vec<u32>,
+    pub cols: Vec<u32>,
+    pub row: usize,
 }
 
-type Answer = Result<Row, u8>;
+pub type Answer = Result<Row, u8>;
 
 /// The slot of the first block, the columns, and what is answered past them.
 #[derive(Debug, PartialEq)]
-struct Row {
-    first: usize,
-    cols: Vec<u32>,
+pub struct Row {
+    pub first: usize,
+    pub cols: Vec<u32>,
     past: [u32; 2],
 }
 
@@ -86,7 +86,7 @@ impl Asked {
     }
 
     /// The rule, read plainly: 1, 3 and 4; then a row whose bounds are in order and within the last row offset, or none.
-    fn read(&self) -> Answer {
+    pub fn read(&self) -> Answer {
         if self.n > 1024 {
             return Err(1);
         }
@@ -111,13 +111,18 @@ impl Asked {
 
     /// As the second program reads it.
     fn line(&self) -> String {
-        let (starts, cols) = (listed(&self.starts), listed(&self.cols));
-        format!("row {} {} {starts} {cols}", self.n, self.row)
+        format!("row {} {} {}", self.n, self.row, self.lists())
+    }
+
+    pub fn lists(&self) -> String {
+        [&self.starts, &self.cols]
+            .map(|list| listed(list))
+            .join(" ")
     }
 }
 
 /// What a call came to; a refusal leaves its place.
-fn told<T: PartialEq>(refused: u8, place: T, untouched: T) -> Result<T, u8> {
+pub fn told<T: PartialEq>(refused: u8, place: T, untouched: T) -> Result<T, u8> {
     assert!(
         refused == 0 || place == untouched,
         "a refusal wrote a place"
@@ -179,7 +184,8 @@ fn compare_rust(draw: &mut Draw) -> usize {
 
 fn compare_any(draw: &mut Draw) -> usize {
     let mut asked: Vec<Asked> = (0..ANY).map(|_| any(draw)).collect();
-    let mut judged = Judged::by("row of any lists", "read");
+    let word = "row of any lists";
+    let mut judged = Judged::by(word, "read");
     let (mut refused, mut falling, mut passing) = ([0; 5], 0, 0);
     let mut answers = Vec::new();
     for one in &mut asked {
@@ -200,12 +206,13 @@ fn compare_any(draw: &mut Draw) -> usize {
     let besides = format!(
         ": {done} done; bounds that fall: {falling}, that pass the last row offset: {passing}; refused by 1: {one}, 3: {three}, 4: {four}"
     );
-    judged.close(&besides) + beside_second(&asked, &answers)
+    let lines = asked.iter().map(Asked::line).collect();
+    judged.close(&besides) + beside_second(word, lines, &answers)
 }
 
-fn beside_second(asked: &[Asked], proved: &[String]) -> usize {
-    let word = "row of any lists";
-    let answers = match second::answers(asked.iter().map(Asked::line).collect()) {
+/// What the code answered to these lines, beside what the second program answers.
+pub fn beside_second(word: &'static str, lines: Vec<String>, proved: &[String]) -> usize {
+    let answers = match second::answers(lines.clone()) {
         Ok(answers) => answers,
         Err(problem) => {
             println!("{word}: not compared, since the second program did not run ({problem})");
@@ -214,20 +221,18 @@ fn beside_second(asked: &[Asked], proved: &[String]) -> usize {
     };
     assert_eq!(
         answers.len(),
-        asked.len(),
+        lines.len(),
         "the second program left rows unanswered"
     );
     let mut judged = Judged::by(word, "second");
-    for ((one, proved), answer) in asked.iter().zip(proved).zip(answers) {
-        judged.count(*proved == answer, || {
-            [one.line(), proved.clone(), answer.clone()]
-        });
+    for ((line, proved), answer) in lines.into_iter().zip(proved).zip(answers) {
+        judged.count(*proved == answer, || [line, proved.clone(), answer.clone()]);
     }
     judged.close(" from the second program")
 }
 
 /// Mostly few particles, with row offsets one short, just enough or more, and a row of theirs or past them.
-fn any(draw: &mut Draw) -> Asked {
+pub fn any(draw: &mut Draw) -> Asked {
     let few = draw.below(PLACES - 2);
     let n = match draw.below(40) {
         0 => usize::MAX,
@@ -253,7 +258,7 @@ fn numbers(draw: &mut Draw) -> Vec<u32> {
     listing(draw, places)
 }
 
-fn listing(draw: &mut Draw, places: u32) -> Vec<u32> {
+pub fn listing(draw: &mut Draw, places: u32) -> Vec<u32> {
     let one = |_| match draw.below(24) {
         23 => u32::MAX,
         small => small % 5,

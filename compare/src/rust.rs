@@ -15,7 +15,7 @@ extern "C" fn determinant(c0x: f32, c0y: f32, c1x: f32, c1y: f32) -> f32 {
     answer::determinant([c0x, c0y, c1x, c1y])
 }
 
-/// Writes the answer at the buffer's start, or refuses a shorter buffer by document 01's number.
+/// Writes the answer at the buffer's start, or refuses a shorter buffer by its number (docs/RULES.md § 3).
 ///
 /// # Safety
 /// `out` must point to `len` floats.

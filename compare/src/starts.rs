@@ -1,4 +1,4 @@
-//! What a graph is like, by the harness's own reading of document 01: its parts, its degrees, and how
+//! What a graph is like, by the harness's own reading of the rules, module 3: its parts, its degrees, and how
 //! often a part's start would move if it were never stopped.
 
 pub struct Reading {

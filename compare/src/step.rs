@@ -4,6 +4,7 @@
 use crate::endings::{told, Places};
 use crate::lend::UNTOUCHED;
 use crate::sys::c::*;
+use oracle::blocks::bytes;
 use oracle::call::Operation::*;
 use oracle::call::{Call, Left};
 
@@ -24,7 +25,8 @@ fn seven(counts: &mut [u32]) -> &mut [u32; 7] {
 pub fn made(call: &mut Call, pinned: &mut [u8]) -> Said {
     let mut how = UNTOUCHED;
     let [mut count, mut row] = [UNTOUCHED as usize; 2];
-    let [mut norm, mut denominator, mut pivot, mut gain] = [f32::from_bits(UNTOUCHED); 4];
+    let [mut residual_squared, mut denominator, mut pivot, mut gain] =
+        [f32::from_bits(UNTOUCHED); 4];
     // Each function is handed lists of its own parameters' kinds.
     let refused = unsafe {
         match (call.operation, &call.numbers[..], &mut call.lists[..]) {
@@ -43,7 +45,7 @@ pub fn made(call: &mut Call, pinned: &mut [u8]) -> Said {
             ) => {
                 let tolerance = f32::from_bits(tolerance as u32);
                 lend!(bracket_solve_step(n; r, c, d, blocks, perm, inv_perm, first, row_start, values; factored != 0; p, b; tolerance, limit, dense;
-                    x, scratch, residual, direction, a_direction, z; seven(counts), &mut how, &mut count, &mut norm, &mut denominator;))
+                    x, scratch, residual, direction, a_direction, z; seven(counts), &mut how, &mut count, &mut residual_squared, &mut denominator;))
             }
             (
                 ResponseInto,
@@ -56,18 +58,19 @@ pub fn made(call: &mut Call, pinned: &mut [u8]) -> Said {
                 let tolerance = f32::from_bits(tolerance as u32);
                 lend!(bracket_response_into(n; r, c, d, blocks, perm, inv_perm, first, row_start, values; factored != 0; p;
                     tolerance, limit, dense; pinned; entries; particles, gradients, out, rhs, scratch, residual, direction, a_direction, z;
-                    seven(counts), &mut gain, &mut how, &mut count, &mut norm, &mut denominator;))
+                    seven(counts), &mut gain, &mut how, &mut count, &mut residual_squared, &mut denominator;))
             }
             _ => unreachable!("a call has the numbers and lists of its operation"),
         }
     };
-    let [norm, denominator, pivot, gain] = [norm, denominator, pivot, gain].map(f32::to_bits);
+    let [residual_squared, denominator, pivot, gain] =
+        [residual_squared, denominator, pivot, gain].map(f32::to_bits);
     Said {
         refused,
         ending: Places {
             how,
             count,
-            norm,
+            residual_squared,
             denominator,
         },
         row,
@@ -79,7 +82,7 @@ pub fn made(call: &mut Call, pinned: &mut [u8]) -> Said {
 /// A response's marks, as bytes.
 pub fn marks(call: &Call) -> Vec<u8> {
     match call.operation {
-        ResponseInto => call.lists[10].iter().map(|&mark| mark as u8).collect(),
+        ResponseInto => bytes(&call.lists[10]),
         _ => Vec::new(),
     }
 }

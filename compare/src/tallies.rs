@@ -9,7 +9,7 @@ use oracle::draw::Draw;
 use oracle::steps::{drawn, near_cap};
 use oracle::systems::System;
 
-/// Document 01's, written once more.
+/// The rules' cap (docs/RULES.md § 2), written once more.
 const CAP: u64 = 4_000_000_000;
 
 /// The calls that sequences are made of: so many whole ones, of at most so many particles, and so many

@@ -1,5 +1,6 @@
 //! Times of the block matrix: the doors and the work behind them, beside the Rust's.
 
+use crate::sys::c::bracket_row_slot;
 use crate::{doors, inside};
 use oracle::blocks::{vectors, Blocks};
 use oracle::call::{Call, Operation};
@@ -82,23 +83,33 @@ pub fn by_turns<S>(
 
 pub fn report(draw: &mut Draw) {
     println!("times: door/Rust inner/Rust (Rust's microseconds); well_formed in microseconds");
-    let random = graphs::random(draw, 1024, graphs::PAIRS);
-    for (name, graph) in [
+    for (name, graph) in six(draw) {
+        let build = from_pairs(draw, &graph);
+        let mul = mul(draw, &graph);
+        let pin = make_dirichlet(draw, &graph);
+        let marked = make_dirichlet_marked(draw, &graph);
+        let (mut one, mut any) = (one_slot(draw, &graph), any_slots(draw, &graph));
+        let index = [&mut one, &mut any].map(block_index);
+        let slot = [&mut one, &mut any].map(row_slot);
+        let test = well_formed(draw, &graph);
+        println!("{name}: from_pairs {build}, mul {mul}; well_formed {test:.1}");
+        println!("{name}: make_dirichlet {pin}, make_dirichlet_marked {marked}");
+        for (call, [one, any]) in [("block_index", index), ("row_slot", slot)] {
+            println!("{name}: {call} {one}, {call} of any {any}");
+        }
+    }
+}
+
+/// The graphs that the block matrix is timed on.
+pub fn six(draw: &mut Draw) -> [(&'static str, Graph); 6] {
+    [
         ("chain 1024", graphs::chain(1024)),
         ("grid 32x32", graphs::grid(32, 32)),
         ("grid 8x5", graphs::grid(8, 5)),
         ("hub 1024", graphs::hub(1024)),
         ("complete 90", graphs::complete(90)),
-        ("random 4096", random),
-    ] {
-        let build = from_pairs(draw, &graph);
-        let mul = mul(draw, &graph);
-        let pin = make_dirichlet(draw, &graph);
-        let index = block_index(draw, &graph);
-        let any = any_slots(draw, &graph);
-        let test = well_formed(draw, &graph);
-        println!("{name}: from_pairs {build}, mul {mul}, make_dirichlet {pin}, block_index {index}, any slots {any}; well_formed {test:.1}");
-    }
+        ("random 4096", graphs::random(draw, 1024, graphs::PAIRS)),
+    ]
 }
 
 /// An accepted call whose lists are no longer than they must be.
@@ -151,44 +162,92 @@ fn make_dirichlet(draw: &mut Draw, graph: &Graph) -> String {
     beside(&mut call, rust, inside::make_dirichlet)
 }
 
-/// The door: in the middle row, a column that is stored. The search: the same slot again and again.
-fn block_index(draw: &mut Draw, graph: &Graph) -> String {
+/// Every eighth row, the hub's among them; the Rust pins them one after the other.
+fn make_dirichlet_marked(draw: &mut Draw, graph: &Graph) -> String {
+    let mut call = exact(draw, Operation::MakeDirichletMarked, graph);
+    let marks: Vec<u8> = (0..graph.n).map(|row| u8::from(row % 8 == 0)).collect();
+    let pattern = [0, 1, 2].map(|at| call.lists[at].as_slice());
+    let mut matrix = Blocks::from_lists(call.n(), pattern, &call.lists[4]);
+    let rust = |_: &mut Call| matrix.make_dirichlet_marked(black_box(&marks));
+    let mut door_marks = marks.clone();
+    let door = |call: &mut Call| {
+        let refused = doors::make_dirichlet_marked(call, &mut door_marks);
+        assert_eq!(refused, 0, "refused");
+    };
+    let mut inner_marks = marks.clone();
+    let inner = |call: &mut Call| inside::make_dirichlet_marked(call, &mut inner_marks);
+    told(by_turns(&mut call, rust, door, inner))
+}
+
+/// Rows and columns whose slots are asked for in one go, and a call of `block_index` over the same pattern.
+pub struct Slots {
+    call: Call,
+    pub asked: Vec<(u32, u32)>,
+}
+
+/// How many slots are asked for in one go: one takes a few nanoseconds, and a processor foresees a short list.
+pub const ASKED: usize = 20_000;
+
+/// In the middle row, a column that is stored: the same slot again and again.
+fn one_slot(draw: &mut Draw, graph: &Graph) -> Slots {
     let mut call = exact(draw, Operation::BlockIndex, graph);
     let row = graph.n / 2;
     let col = call.lists[1][call.lists[0][row] as usize];
     call.numbers = vec![graph.n, row, col as usize];
-    searches(&mut call, &[(row as u32, col); ASKED])
+    let asked = vec![(row as u32, col); ASKED];
+    Slots { call, asked }
 }
 
-/// The search: slots of any row, every other one of a column that is stored.
-fn any_slots(draw: &mut Draw, graph: &Graph) -> String {
-    let mut call = exact(draw, Operation::BlockIndex, graph);
-    let mut asked = [(0, 0); ASKED];
-    for (turn, place) in asked.iter_mut().enumerate() {
+/// Slots of any row, every other one of a column that is stored.
+pub fn any_slots(draw: &mut Draw, graph: &Graph) -> Slots {
+    let call = exact(draw, Operation::BlockIndex, graph);
+    let mut one = |turn| {
         let row = draw.below(graph.n as u32);
         let [start, end] = [row, row + 1].map(|at| call.lists[0][at as usize]);
         let stored = call.lists[1][(start + draw.below(end - start)) as usize];
         let any = draw.below(graph.n as u32);
-        *place = (row, if turn % 2 == 0 { stored } else { any });
-    }
-    searches(&mut call, &asked)
+        (row, if turn % 2 == 0 { stored } else { any })
+    };
+    let asked = (0..ASKED).map(&mut one).collect();
+    Slots { call, asked }
 }
 
-/// How many slots are asked for in one go: one takes a few nanoseconds, and a processor foresees a short list.
-const ASKED: usize = 20_000;
-
-fn searches(call: &mut Call, asked: &[(u32, u32); ASKED]) -> String {
-    let pattern = [0, 1, 2].map(|at| call.lists[at].as_slice());
-    let matrix = Blocks::from_lists(call.n(), pattern, &[]);
-    let rust = |_: &mut Call| {
-        for &(row, col) in black_box(asked) {
+/// A door, and the search alone, beside the Rust's.
+fn searches(slots: &mut Slots, door: impl FnMut(&mut Slots)) -> [f64; 3] {
+    let pattern = [0, 1, 2].map(|at| slots.call.lists[at].as_slice());
+    let matrix = Blocks::from_lists(slots.call.n(), pattern, &[]);
+    let rust = |slots: &mut Slots| {
+        for &(row, col) in black_box(&slots.asked) {
             black_box(matrix.block_index(row, col));
         }
     };
-    let door = |call: &mut Call| assert_eq!(doors::made(call).0, 0, "refused");
-    let inner = |call: &mut Call| inside::searches(call, black_box(asked));
-    let [door, inner, rust] = by_turns(call, rust, door, inner);
-    told([door * ASKED as f64, inner, rust / ASKED as f64])
+    let inner = |slots: &mut Slots| inside::searches(&mut slots.call, black_box(&slots.asked));
+    let [door, inner, rust] = by_turns(slots, rust, door, inner);
+    [door, inner, rust / ASKED as f64]
+}
+
+/// The door tests the whole pattern, so it is asked for one slot.
+fn block_index(slots: &mut Slots) -> String {
+    let door = |slots: &mut Slots| assert_eq!(doors::made(&mut slots.call).0, 0, "refused");
+    let [door, inner, rust] = searches(slots, door);
+    told([door * ASKED as f64, inner, rust])
+}
+
+/// The door tests one row, and is asked for every slot.
+fn row_slot(slots: &mut Slots) -> String {
+    let door = |Slots { call, asked }: &mut Slots| {
+        let n = call.n();
+        let [starts, cols, _] = &mut call.lists[..] else {
+            unreachable!("a pattern is three lists");
+        };
+        for &(row, col) in black_box(&*asked) {
+            let (row, mut slot) = (row as usize, 0);
+            let refused = unsafe { lend!(bracket_row_slot(n; starts, cols; row, col, &mut slot;)) };
+            assert_eq!(refused, 0, "refused");
+            black_box(slot);
+        }
+    };
+    told(searches(slots, door))
 }
 
 /// The test that every door over a pattern makes.

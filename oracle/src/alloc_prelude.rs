@@ -2,7 +2,7 @@
 
 use crate::math::Real;
 
-/// A sum from +0.0, left to right; document 01 rules so.
+/// A sum from +0.0, left to right; docs/RULES.md, module 1.
 pub trait SumFromZero {
     fn sum_from_zero(self) -> Real;
 }

@@ -44,6 +44,13 @@ impl Blocks {
         self.0.block_index(row, col)
     }
 
+    /// Adds to a stored block, as a caller of the source does: its slot, then its value.
+    pub fn add(&mut self, row: u32, col: u32, block: Matrix) {
+        let slot = self.0.block_index(row, col);
+        let stored = &mut self.0.blocks[slot as usize];
+        *stored = *stored + block;
+    }
+
     /// The columns of a row, as the Rust hands them to a closure.
     pub fn columns(&self, row: u32) -> Vec<u32> {
         let mut columns = Vec::new();
@@ -57,6 +64,15 @@ impl Blocks {
 
     pub fn make_dirichlet(&mut self, row: u32) {
         self.0.make_dirichlet(row);
+    }
+
+    /// The Rust has no such call: its own for each marked row, one after the other.
+    pub fn make_dirichlet_marked(&mut self, marks: &[u8]) {
+        for (row, &mark) in marks.iter().enumerate() {
+            if mark != 0 {
+                self.make_dirichlet(row as u32);
+            }
+        }
     }
 
     /// A particle's own block at row and column d.
@@ -73,6 +89,11 @@ pub(crate) fn block(bits: &[u32]) -> Matrix {
 pub(crate) fn block_bits(block: &Matrix) -> [u32; 4] {
     let (c0, c1) = (block.col(0), block.col(1));
     [c0.x, c0.y, c1.x, c1.y].map(f32::to_bits)
+}
+
+/// A list of bytes. What is no byte becomes the largest.
+pub fn bytes(list: &[u32]) -> Vec<u8> {
+    list.iter().map(|&item| item.min(255) as u8).collect()
 }
 
 fn vector(bits: &[u32]) -> Vector {
@@ -97,12 +118,14 @@ pub(crate) fn over(lent: &[u32], front: &[u32], need: usize) -> Vec<u32> {
     list
 }
 
-/// What the Rust answers to a call that document 01 accepts.
+/// What the Rust answers to a call that the rules accept.
 pub fn left(call: &Call) -> Left {
     match call.operation {
         Operation::FromPairs | Operation::PatternFromPairs => built(call),
         Operation::BlockIndex | Operation::DiagonalIndex => found(call),
-        Operation::ClearValues | Operation::MakeDirichlet => revalued(call),
+        Operation::ClearValues | Operation::MakeDirichlet | Operation::MakeDirichletMarked => {
+            revalued(call)
+        }
         Operation::Mul => multiplied(call),
         Operation::Plan => planned(call),
         Operation::UpdatePreconditioner => gradient::updated(call, &matrix(call, &call.lists[3])),
@@ -155,13 +178,15 @@ fn found(call: &Call) -> Left {
 }
 
 fn revalued(call: &Call) -> Left {
-    let mut matrix = matrix(call, &call.lists[3]);
+    let lent = &call.lists[call.operation.first_changed()];
+    let mut matrix = matrix(call, lent);
     match call.operation {
         Operation::ClearValues => matrix.0.clear_values(),
-        _ => matrix.make_dirichlet(call.numbers[1] as u32),
+        Operation::MakeDirichlet => matrix.make_dirichlet(call.numbers[1] as u32),
+        _ => matrix.make_dirichlet_marked(&bytes(&call.lists[3][..call.n()])),
     }
     let blocks = matrix.blocks();
-    done(None, vec![over(&call.lists[3], &blocks, blocks.len())])
+    done(None, vec![over(lent, &blocks, blocks.len())])
 }
 
 /// The Rust walks over the pattern's blocks without looking at them.

@@ -16,6 +16,7 @@ pub enum Operation {
     ClearValues,
     Mul,
     MakeDirichlet,
+    MakeDirichletMarked,
     Plan,
     Factorize,
     Solve,
@@ -29,7 +30,7 @@ pub enum Operation {
 use Items::{Float, Whole};
 use Operation::*;
 
-/// The block matrix's.
+/// The block matrix's, but for `MakeDirichletMarked`, which the Rust doesn't have.
 pub const MATRIX: [Operation; 7] = [
     FromPairs,
     PatternFromPairs,
@@ -46,6 +47,7 @@ pub const STEP: [Operation; 3] = [FactorizeStepMatrix, SolveStep, ResponseInto];
 impl Operation {
     pub fn all() -> impl Iterator<Item = Self> {
         let solvers = [
+            MakeDirichletMarked,
             Plan,
             Factorize,
             Solve,
@@ -64,6 +66,7 @@ impl Operation {
             ClearValues => "clear_values",
             Mul => "mul",
             MakeDirichlet => "make_dirichlet",
+            MakeDirichletMarked => "make_dirichlet_marked",
             Plan => "plan",
             Factorize => "factorize",
             Solve => "solve",
@@ -80,7 +83,8 @@ impl Operation {
     /// as 0 or 1 and, for a response, the number of entries.
     pub fn numbers(self) -> usize {
         match self {
-            ClearValues | Mul | Plan | Factorize | Solve | UpdatePreconditioner => 1,
+            ClearValues | Mul | MakeDirichletMarked | Plan | Factorize | Solve
+            | UpdatePreconditioner => 1,
             FromPairs | PatternFromPairs | DiagonalIndex | MakeDirichlet | FactorizeStepMatrix => 2,
             BlockIndex | ConjugateGradient => 3,
             SolveStep => 5,
@@ -110,6 +114,7 @@ impl Operation {
             PatternFromPairs => &[Whole; 5],
             BlockIndex | DiagonalIndex => &[Whole; 3],
             ClearValues | MakeDirichlet => &[Whole, Whole, Whole, Float],
+            MakeDirichletMarked => &[Whole, Whole, Whole, Whole, Float],
             Mul => &[Whole, Whole, Whole, Float, Float, Float],
             // The plan's four, and five to work in.
             Plan => &[Whole; 12],
@@ -149,7 +154,7 @@ impl Operation {
             Mul => 5,
             Solve => 6,
             Factorize | FactorizeStepMatrix => 8,
-            UpdatePreconditioner => 4,
+            MakeDirichletMarked | UpdatePreconditioner => 4,
             ConjugateGradient => 6,
             SolveStep => 11,
             ResponseInto => 13,
@@ -242,6 +247,10 @@ impl Call {
                 vec![n, n, m, m + 1, factor, m, m, m]
             }
             FactorizeStepMatrix | SolveStep | ResponseInto => self.step_needs(),
+            MakeDirichletMarked => {
+                let blocks = self.lists[0][n] as usize;
+                vec![n + 1, blocks, n, n, 4 * blocks]
+            }
             UpdatePreconditioner | ConjugateGradient => {
                 let blocks = self.lists[0][n] as usize;
                 let mut needs = vec![n + 1, blocks, n, 4 * blocks, 4 * n];

@@ -1,9 +1,10 @@
-//! Calls that document 01 accepts.
+//! Calls that the rules accept (docs/RULES.md § 8).
 
 use crate::blocks::Blocks;
 use crate::call::{Call, Items, Operation};
 use crate::draw::Draw;
 use crate::graphs::Graph;
+use crate::steps::pinned;
 use crate::values;
 
 /// How many places a lent list may be longer than it must be.
@@ -25,6 +26,10 @@ pub fn accepted(draw: &mut Draw, operation: Operation, graph: &Graph, turn: usiz
     }
     if operation == Operation::BlockIndex {
         numbers.push(column(draw, n, &lists[1]));
+    }
+    if operation == Operation::MakeDirichletMarked {
+        let rest = draw.below(REST) as usize;
+        lists.push(pinned(draw, n + rest));
     }
     lists.resize(operation.lists().len(), Vec::new());
     let mut call = Call {

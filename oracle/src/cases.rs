@@ -65,18 +65,23 @@ fn root_inputs(draw: &mut Draw) -> Vec<f32> {
 pub fn pattern(seed: u64) -> Vec<String> {
     let draw = &mut Draw::new(seed);
     let mut lines = Vec::new();
+    small_and_larger(draw, &MATRIX, &mut lines);
+    for operation in [Operation::PatternFromPairs, Operation::BlockIndex] {
+        lines.push(calls::accepted(draw, operation, &graphs::chain(1024), 0).line());
+    }
+    small_and_larger(draw, &[Operation::MakeDirichletMarked], &mut lines);
+    lines
+}
+
+fn small_and_larger(draw: &mut Draw, operations: &[Operation], lines: &mut Vec<String>) {
     for (turns, most) in [SMALL, LARGER] {
         for turn in 0..turns {
-            for operation in MATRIX {
+            for &operation in operations {
                 let graph = graphs::drawn(draw, turn, most);
                 lines.push(calls::accepted(draw, operation, &graph, turn).line());
             }
         }
     }
-    for operation in [Operation::PatternFromPairs, Operation::BlockIndex] {
-        lines.push(calls::accepted(draw, operation, &graphs::chain(1024), 0).line());
-    }
-    lines
 }
 
 /// Graphs of every kind, all that were found to move their start and some made to, the longest chain,

@@ -1,4 +1,4 @@
-//! The plane numbers that the sources import: f32, two dimensions, the arithmetic of document 01.
+//! The plane numbers that the sources import: f32, two dimensions, the arithmetic of the rules, module 1.
 
 #[path = "matrix.rs"]
 mod matrix;

@@ -4,7 +4,7 @@ use crate::blocks::{over, Blocks};
 use crate::call::{Call, Left};
 use crate::soft_fem::soft_fem_skyline::SkylineCholesky;
 
-/// Document 01's limit of envelope entries. The Rust has none.
+/// The limit of envelope entries (docs/RULES.md § 2). The Rust has none.
 pub const ENVELOPE: usize = 16_384;
 
 /// The Rust's own plan, for calls without a line.

@@ -4,7 +4,7 @@
 use crate::call::Call;
 use crate::gradient::settings;
 
-/// By document 01's numbers.
+/// By the rules' numbers (docs/RULES.md § 7, module 5).
 #[derive(Clone, Copy, PartialEq, Eq, Debug)]
 pub enum Outcome {
     Zero = 1,
@@ -175,7 +175,7 @@ fn floats(bits: &[u32], length: usize) -> Vec<f32> {
     bits[..length].iter().copied().map(f32::from_bits).collect()
 }
 
-/// Of a solve that document 01 accepts.
+/// Of a solve that the rules accept.
 pub fn of(call: &Call) -> Reading {
     let n = call.n();
     let (tolerance, limit) = settings(call);

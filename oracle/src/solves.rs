@@ -1,4 +1,4 @@
-//! Solves that document 01 accepts: matrices, vectors and settings of many kinds, each drawn apart
+//! Solves that the rules accept: matrices, vectors and settings of many kinds, each drawn apart
 //! from the others, and some that are made for one end.
 
 use crate::blocks::Blocks;

@@ -11,7 +11,7 @@ use crate::math::Vector;
 use crate::reading::{self, Reading};
 use crate::soft_fem::system::SoftFemSystem;
 
-/// Document 01's limit of a tally's sum.
+/// The limit of a tally's sum (docs/RULES.md § 2).
 pub const CAP: u64 = 4_000_000_000;
 
 /// Where a tally counts refused calls. A direct solve is counted at 0, an outcome at its number.

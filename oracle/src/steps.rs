@@ -1,4 +1,4 @@
-//! Step calls that document 01 accepts, or refuses by 7: both routes, marks, factors and preconditioners
+//! Step calls that the rules accept, or refuse by 7: both routes, marks, factors and preconditioners
 //! that needn't be the matrix's, and constraints.
 
 use crate::call::{Call, Operation};
@@ -118,7 +118,7 @@ pub fn near_cap(draw: &mut Draw) -> Vec<u32> {
 }
 
 /// Marks, none, all or some of them set, to any byte but zero.
-fn pinned(draw: &mut Draw, n: usize) -> Vec<u32> {
+pub(crate) fn pinned(draw: &mut Draw, n: usize) -> Vec<u32> {
     let kind = draw.below(10);
     let one = |_| {
         let set = match kind {

@@ -1,9 +1,9 @@
-//! Solves a sprung bracket by both routes and prints how each solve ended: its route, outcome, count, residual, and in the end the
-//! tally.
+//! Solves a sprung bracket by both routes and prints in words how each matrix was factored and each solve ended, what stood against
+//! those that failed, and in the end the tally.
 
 mod springs;
 
-use bracket::{Refusal, SoftFemParameters, Step, Tally, Vector};
+use bracket::{Error, SoftFemParameters, Step, Tally, Vector};
 use springs::Bracket;
 
 const BRACKET: Bracket = Bracket {
@@ -41,25 +41,29 @@ fn solve(
     params: &SoftFemParameters,
     load: &[Vector],
     tally: &mut Tally,
-) -> Result<(), Refusal> {
+) -> Result<(), Error> {
     let mut step = Step::new(&BRACKET.pinned());
     let marked = step.factorize_step_matrix(&BRACKET.matrix()?, params)?;
     let mut x = vec![[0.0; 2]; BRACKET.particles()];
-    println!("{name}: factored as {marked:?}");
+    println!("{name}: {marked}");
     match step.solve_step(load, &mut x, params, tally) {
-        Ok(stepped) => println!(
-            "  solved as {stepped:?}, residual of x {:e}",
-            residual(&x, load)?
-        ),
-        Err(refusal) => println!("  refused {}: {refusal}", refusal.number()),
+        Ok(stepped) => {
+            println!("  {stepped}; b - A x squared {:e}", apart(&x, load)?);
+            let corner = BRACKET.particle(BRACKET.columns - 1, 0) as usize;
+            let told = if stepped.solved() {
+                "moves by"
+            } else {
+                "is left, unsolved, at"
+            };
+            println!("  outer corner {told} {:?}", x[corner]);
+        }
+        Err(error) => println!("  {error}"),
     }
-    let corner = BRACKET.particle(BRACKET.columns - 1, 0) as usize;
-    println!("  outer corner moves by {:?}", x[corner]);
     Ok(())
 }
 
 /// The squared length of b - A x, worked out afresh.
-fn residual(x: &[Vector], b: &[Vector]) -> Result<f32, Refusal> {
+fn apart(x: &[Vector], b: &[Vector]) -> Result<f32, Error> {
     let mut product = vec![[0.0; 2]; x.len()];
     BRACKET.matrix()?.mul(x, &mut product)?;
     let lacks = product
@@ -72,19 +76,20 @@ fn residual(x: &[Vector], b: &[Vector]) -> Result<f32, Refusal> {
 }
 
 /// What a constraint that pulls the outer corner down is answered.
-fn respond(tally: &mut Tally) -> Result<(), Refusal> {
+fn respond(tally: &mut Tally) -> Result<(), Error> {
     let mut step = Step::new(&BRACKET.pinned());
-    step.factorize_step_matrix(&BRACKET.matrix()?, &DIRECT)?;
+    let marked = step.factorize_step_matrix(&BRACKET.matrix()?, &DIRECT)?;
+    println!("responses: {marked}");
     let mut out = vec![[0.0; 2]; BRACKET.particles()];
     let corner = BRACKET.particle(BRACKET.columns - 1, 0);
     for (name, particle) in [("outer corner", corner), ("wall", BRACKET.particle(0, 0))] {
         let responded = step.response_into(&[(particle, [0.0, -1.0])], &mut out, &DIRECT, tally)?;
-        println!("response at the {name}: {responded:?}");
+        println!("  at the {name}: {responded}");
     }
     Ok(())
 }
 
-fn main() -> Result<(), Refusal> {
+fn main() -> Result<(), Error> {
     let mut tally = Tally::default();
     let load = BRACKET.load(2.0);
     solve("direct", &DIRECT, &load, &mut tally)?;
@@ -92,7 +97,8 @@ fn main() -> Result<(), Refusal> {
     solve("cut short", &CUT_SHORT, &load, &mut tally)?;
     solve("no load", &ITERATIVE, &BRACKET.load(0.0), &mut tally)?;
     solve("impossible tolerance", &IMPOSSIBLE, &load, &mut tally)?;
+    solve("load of too few particles", &DIRECT, &load[1..], &mut tally)?;
     respond(&mut tally)?;
-    println!("{tally:?}");
+    println!("{tally}");
     Ok(())
 }

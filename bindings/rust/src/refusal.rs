@@ -1,10 +1,10 @@
-//! Why a call was refused.
+//! Why a proved call was refused.
 
-use std::error::Error;
 use std::fmt;
 
 /// The lowest number that applies, by its meaning.
 #[derive(Clone, Copy, Debug, PartialEq, Eq)]
+#[must_use = "a refused call did nothing"]
 pub enum Refusal {
     TooManyParticles = 1,
     TooManyEntries = 2,
@@ -31,12 +31,14 @@ impl Refusal {
         Self::BadText,
     ];
 
+    #[must_use]
     pub fn number(self) -> u8 {
         self as u8
     }
 }
 
-/// What a proved call's answer means: 0 is acceptance.
+/// What a proved call's answer means: 0 is acceptance. No call answers a number above 8, as is proved.
+#[inline]
 pub(crate) fn accepted(number: u8) -> Result<(), Refusal> {
     match number {
         0 => Ok(()),
@@ -60,4 +62,4 @@ impl fmt::Display for Refusal {
     }
 }
 
-impl Error for Refusal {}
+impl std::error::Error for Refusal {}

@@ -1,9 +1,12 @@
 //! The step: its matrix, and the solves that go through it.
 
+use crate::error::exact;
+use crate::matrix::bytes;
 use crate::outcome::Told;
 use crate::refusal::accepted;
 use crate::{
-    sys, BlockMatrix, ConjugateGradient, Outcome, Refusal, SkylineCholesky, Tally, Vector,
+    sys, BlockMatrix, ConjugateGradient, Error, Marked, Matrix, Refusal, Responded,
+    SkylineCholesky, Stepped, Tally, Vector,
 };
 
 /// The settings of a step.
@@ -15,74 +18,41 @@ pub struct SoftFemParameters {
     pub max_linear_iterations: usize,
 }
 
-/// The part of the Rust's `SoftFemSystem` that the step's solves need.
+/// The part of the Rust's `SoftFemSystem` that the step's solves need. All its lists are for as many particles as there are marks.
 #[derive(Clone, Debug, Default)]
 pub struct Step {
+    /// How the step's matrix was factored; none while there is no matrix.
+    marked: Option<Marked>,
     step_matrix: BlockMatrix,
-    /// Empty until a plan is needed.
+    /// Without a plan until one is needed.
     direct: SkylineCholesky,
-    direct_valid: bool,
     step_cg: ConjugateGradient,
     response_rhs: Vec<Vector>,
     /// A byte for each particle, zero if it's free.
     pinned: Vec<u8>,
 }
 
-/// How a step's matrix was factored.
-#[derive(Clone, Copy, Debug, PartialEq)]
-pub enum Marked {
-    Direct,
-    /// The factor failed; the step's solves iterate.
-    Failed {
-        row: usize,
-        pivot: f32,
-    },
-    /// There are more degrees of freedom than `max_dense_dofs`.
-    Iterative,
-}
-
-/// How a step solve ended.
-#[derive(Clone, Copy, Debug, PartialEq)]
-pub enum Stepped {
-    Direct,
-    Iterated(Outcome),
-}
-
-/// What a response came to.
-#[derive(Clone, Copy, Debug, PartialEq)]
-pub enum Responded {
-    /// No entry was left, so no step solve was asked for.
-    Nothing,
-    Direct {
-        gain: f32,
-    },
-    Iterated {
-        gain: f32,
-        how: Outcome,
-    },
-}
-
-impl Responded {
-    /// The gain: +0.0 where nothing was asked for.
-    pub fn gain(&self) -> f32 {
-        match *self {
-            Self::Nothing => 0.0,
-            Self::Direct { gain } | Self::Iterated { gain, .. } => gain,
-        }
-    }
-}
-
 impl Step {
     /// A body of as many particles as there are marks.
+    #[must_use]
     pub fn new(pinned: &[bool]) -> Self {
         Self {
-            pinned: pinned.iter().map(|&mark| u8::from(mark)).collect(),
+            step_cg: ConjugateGradient::with_room(pinned.len()),
+            response_rhs: vec![Default::default(); pinned.len()],
+            pinned: bytes(pinned),
             ..Self::default()
         }
     }
 
+    #[must_use]
     pub fn num_particles(&self) -> usize {
         self.pinned.len()
+    }
+
+    /// How the step's matrix was factored; none before one was accepted.
+    #[must_use]
+    pub fn marked(&self) -> Option<Marked> {
+        self.marked
     }
 
     /// Keeps `matrix` for the step and factors it if it's small enough. The plan is made at the first such call and kept.
@@ -90,58 +60,54 @@ impl Step {
         &mut self,
         matrix: &BlockMatrix,
         params: &SoftFemParameters,
-    ) -> Result<Marked, Refusal> {
-        self.step_matrix.clone_from(matrix);
-        self.direct_valid = false;
+    ) -> Result<Marked, Error> {
         let n = matrix.num_rows();
-        self.step_cg.preconditioner.resize(n, Default::default());
-        if 2 * n <= params.max_dense_dofs && self.direct.row_start.is_empty() {
-            self.direct = SkylineCholesky::new(matrix)?;
+        exact("pinned", n, self.num_particles())?;
+        // A first plan stands aside until the call is accepted, and the step keeps its matrix until then.
+        let first = 2 * n <= params.max_dense_dofs && !self.direct.planned();
+        let mut plan = first.then(|| SkylineCholesky::new(matrix)).transpose()?;
+        let direct = plan.as_mut().unwrap_or(&mut self.direct);
+        let marked = factor(matrix, direct, &mut self.step_cg.preconditioner, params)?;
+        if let Some(plan) = plan {
+            self.direct = plan;
         }
-        let marked = self.factor(params)?;
-        self.direct_valid = marked == Marked::Direct;
+        self.direct.factored = marked.factored().or(self.direct.factored);
+        self.step_cg.preconditioned |= marked != Marked::Direct;
+        self.step_matrix.clone_from(matrix);
+        self.marked = Some(marked);
         Ok(marked)
     }
 
-    fn factor(&mut self, params: &SoftFemParameters) -> Result<Marked, Refusal> {
-        let (matrix, direct) = (&self.step_matrix, &mut self.direct);
-        let preconditioner = self.step_cg.preconditioner.as_flattened_mut();
-        let (mut how, mut row, mut pivot) = (0, 0, 0.0);
-        accepted(sys::bracket_factorize_step_matrix(
-            matrix.num_rows(),
-            &matrix.row_offsets,
-            &matrix.cols,
-            &matrix.diagonal,
-            matrix.numbers(),
-            &direct.perm,
-            &direct.inv_perm,
-            &direct.first,
-            &direct.row_start,
-            params.max_dense_dofs,
-            &mut direct.values,
-            preconditioner.as_flattened_mut(),
-            &mut how,
-            &mut row,
-            &mut pivot,
-        ))?;
-        match how {
-            0 => Ok(Marked::Direct),
-            1 => Ok(Marked::Failed { row, pivot }),
-            _ => Ok(Marked::Iterative),
+    /// Whether the step can be asked: it has a matrix, these lists are for its particles, and there is what these settings use.
+    /// By other settings than the matrix was factored by, there may be no plan or no preconditioner.
+    fn asked(
+        &self,
+        lists: &[(&'static str, usize)],
+        params: &SoftFemParameters,
+    ) -> Result<(), Error> {
+        if self.marked.is_none() {
+            return Err(Error::NoMatrix);
+        }
+        for &(list, given) in lists {
+            exact(list, self.num_particles(), given)?;
+        }
+        match 2 * self.num_particles() <= params.max_dense_dofs {
+            true if !self.direct.planned() => Err(Error::NoPlan),
+            false if !self.step_cg.preconditioned => Err(Error::NoPreconditioner),
+            _ => Ok(()),
         }
     }
 
-    /// Solves `A x = b` by the step's factor, or from zero by the conjugate gradient, and counts how that ended. Without a step
-    /// matrix it's refused.
+    /// Solves `A x = b` by the step's factor, or from zero by the conjugate gradient, and counts how that ended.
     pub fn solve_step(
         &mut self,
         b: &[Vector],
         x: &mut [Vector],
         params: &SoftFemParameters,
         tally: &mut Tally,
-    ) -> Result<Stepped, Refusal> {
+    ) -> Result<Stepped, Error> {
+        tally.counting(self.asked(&[("b", b.len()), ("x", x.len())], params))?;
         let (matrix, direct, cg) = (&self.step_matrix, &mut self.direct, &mut self.step_cg);
-        cg.make_room(matrix.num_rows());
         let mut told = Told::default();
         let mut counts = tally.counts();
         let number = sys::bracket_solve_step(
@@ -155,7 +121,7 @@ impl Step {
             &direct.first,
             &direct.row_start,
             &direct.values,
-            self.direct_valid,
+            self.marked == Some(Marked::Direct),
             cg.preconditioner.as_flattened().as_flattened(),
             b.as_flattened(),
             params.linear_tolerance,
@@ -170,12 +136,12 @@ impl Step {
             &mut counts,
             &mut told.how,
             &mut told.count,
-            &mut told.norm,
+            &mut told.residual_squared,
             &mut told.denominator,
         );
         *tally = counts.into();
         accepted(number)?;
-        Ok(told.outcome().map_or(Stepped::Direct, Stepped::Iterated))
+        Ok(told.stepped())
     }
 
     /// The body's answer to a constraint with these gradients at these particles: the step's solve of their sum into `out`, and the
@@ -186,12 +152,10 @@ impl Step {
         out: &mut [Vector],
         params: &SoftFemParameters,
         tally: &mut Tally,
-    ) -> Result<Responded, Refusal> {
+    ) -> Result<Responded, Error> {
+        tally.counting(self.asked(&[("out", out.len())], params))?;
         let (particles, gradients): (Vec<u32>, Vec<Vector>) = entries.iter().copied().unzip();
         let (matrix, direct, cg) = (&self.step_matrix, &mut self.direct, &mut self.step_cg);
-        cg.make_room(matrix.num_rows());
-        self.response_rhs
-            .resize(matrix.num_rows(), Default::default());
         let mut gain = 0.0;
         let mut told = Told::default();
         let mut counts = tally.counts();
@@ -206,7 +170,7 @@ impl Step {
             &direct.first,
             &direct.row_start,
             &direct.values,
-            self.direct_valid,
+            self.marked == Some(Marked::Direct),
             cg.preconditioner.as_flattened().as_flattened(),
             params.linear_tolerance,
             params.max_linear_iterations,
@@ -226,15 +190,43 @@ impl Step {
             &mut gain,
             &mut told.how,
             &mut told.count,
-            &mut told.norm,
+            &mut told.residual_squared,
             &mut told.denominator,
         );
         *tally = counts.into();
         accepted(number)?;
-        Ok(match told.outcome() {
-            Some(how) => Responded::Iterated { gain, how },
-            None if told.how == 0 => Responded::Direct { gain },
-            None => Responded::Nothing,
-        })
+        Ok(told.responded(gain))
     }
+}
+
+/// The call behind [`Step::factorize_step_matrix`], which leaves plan, factor and preconditioner as they were if it's refused.
+fn factor(
+    matrix: &BlockMatrix,
+    direct: &mut SkylineCholesky,
+    preconditioner: &mut [Matrix],
+    params: &SoftFemParameters,
+) -> Result<Marked, Refusal> {
+    let (mut how, mut row, mut pivot) = (0, 0, 0.0);
+    accepted(sys::bracket_factorize_step_matrix(
+        matrix.num_rows(),
+        &matrix.row_offsets,
+        &matrix.cols,
+        &matrix.diagonal,
+        matrix.numbers(),
+        &direct.perm,
+        &direct.inv_perm,
+        &direct.first,
+        &direct.row_start,
+        params.max_dense_dofs,
+        &mut direct.values,
+        preconditioner.as_flattened_mut().as_flattened_mut(),
+        &mut how,
+        &mut row,
+        &mut pivot,
+    ))?;
+    Ok(match how {
+        0 => Marked::Direct,
+        1 => Marked::Failed { row, pivot },
+        _ => Marked::Iterative,
+    })
 }

@@ -40,8 +40,9 @@ macro_rules! calls {
         calls!(@ $name $answer [$($taken)*] [$($handed)* $p,] $($rest)*);
     };
     (@ $name:ident $answer:ty [$($taken:tt)*] [$($handed:tt)*]) => {
-        // The wrapper has no pattern without values; compare/ calls no safe function.
+        // The wrapper has no pattern without values and finds slots by rows; compare/ calls no safe function.
         #[allow(clippy::too_many_arguments, dead_code)]
+        #[inline]
         pub fn $name($($taken)*) -> $answer {
             unsafe { c::$name($($handed)*) }
         }
@@ -78,6 +79,9 @@ calls! {
     fn bracket_row_col(
         n: usize, row_offsets: &[u32], cols: &[u32], row: usize, j: usize, col: &mut u32
     ) -> u8;
+    fn bracket_row_slot(
+        n: usize, row_offsets: &[u32], cols: &[u32], row: usize, col: u32, slot: &mut u32
+    ) -> u8;
     fn bracket_clear_values(
         n: usize, row_offsets: &[u32], cols: &[u32], diagonal: &[u32], blocks: &mut [f32]
     ) -> u8;
@@ -86,6 +90,9 @@ calls! {
     ) -> u8;
     fn bracket_make_dirichlet(
         n: usize, row_offsets: &[u32], cols: &[u32], diagonal: &[u32], row: usize, blocks: &mut [f32]
+    ) -> u8;
+    fn bracket_make_dirichlet_marked(
+        n: usize, row_offsets: &[u32], cols: &[u32], diagonal: &[u32], marks: &[u8], blocks: &mut [f32]
     ) -> u8;
 
     fn bracket_plan(
@@ -110,7 +117,7 @@ calls! {
         n: usize, row_offsets: &[u32], cols: &[u32], diagonal: &[u32], blocks: &[f32], preconditioner: &[f32], b: &[f32],
         tolerance: f32, max_iterations: usize,
         x: &mut [f32], residual: &mut [f32], direction: &mut [f32], a_direction: &mut [f32], z: &mut [f32],
-        how: &mut u32, count: &mut usize, norm: &mut f32, denominator: &mut f32
+        how: &mut u32, count: &mut usize, residual_squared: &mut f32, denominator: &mut f32
     ) -> u8;
 
     fn bracket_factorize_step_matrix(
@@ -126,7 +133,7 @@ calls! {
         tolerance: f32, max_iterations: usize, max_dense_dofs: usize,
         x: &mut [f32], scratch: &mut [f32], residual: &mut [f32], direction: &mut [f32], a_direction: &mut [f32], z: &mut [f32],
         counts: &mut [u32; 7],
-        how: &mut u32, count: &mut usize, norm: &mut f32, denominator: &mut f32
+        how: &mut u32, count: &mut usize, residual_squared: &mut f32, denominator: &mut f32
     ) -> u8;
     fn bracket_response_into(
         n: usize, row_offsets: &[u32], cols: &[u32], diagonal: &[u32], blocks: &[f32],
@@ -136,6 +143,6 @@ calls! {
         pinned: &[u8], entries: usize, particles: &[u32], gradients: &[f32],
         out: &mut [f32], rhs: &mut [f32], scratch: &mut [f32], residual: &mut [f32], direction: &mut [f32], a_direction: &mut [f32], z: &mut [f32],
         counts: &mut [u32; 7],
-        gain: &mut f32, how: &mut u32, count: &mut usize, norm: &mut f32, denominator: &mut f32
+        gain: &mut f32, how: &mut u32, count: &mut usize, residual_squared: &mut f32, denominator: &mut f32
     ) -> u8;
 }

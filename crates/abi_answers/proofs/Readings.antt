@@ -22,10 +22,10 @@ record Readings : Type 0 where
   no-factor : (k : ℕ) (old : Factor) → direct.placesOf (factored.Refused k) old ≡ old
   -- an ending's places
   zero : (count : ℕ) (old : Places) → told.placesOf (solved.Ran (Zero count)) old ≡ places 1 count zero32 zero32
-  near : (count : ℕ) (norm : Float) (old : Places) → told.placesOf (solved.Ran (Near count norm)) old ≡ places 2 count norm zero32
-  converged : (count : ℕ) (norm : Float) (old : Places) → told.placesOf (solved.Ran (Converged count norm)) old ≡ places 3 count norm zero32
-  curvature : (count : ℕ) (norm den : Float) (old : Places) → told.placesOf (solved.Ran (Curvature count norm den)) old ≡ places 4 count norm den
-  limit : (count : ℕ) (norm : Float) (old : Places) → told.placesOf (solved.Ran (Limit count norm)) old ≡ places 5 count norm zero32
+  near : (count : ℕ) (squared : Float) (old : Places) → told.placesOf (solved.Ran (Near count squared)) old ≡ places 2 count squared zero32
+  converged : (count : ℕ) (squared : Float) (old : Places) → told.placesOf (solved.Ran (Converged count squared)) old ≡ places 3 count squared zero32
+  curvature : (count : ℕ) (squared den : Float) (old : Places) → told.placesOf (solved.Ran (Curvature count squared den)) old ≡ places 4 count squared den
+  limit : (count : ℕ) (squared : Float) (old : Places) → told.placesOf (solved.Ran (Limit count squared)) old ≡ places 5 count squared zero32
   no-ending : (k : ℕ) (old : Places) → told.placesOf (solved.Refused k) old ≡ old
 
 readings : Readings
@@ -36,9 +36,9 @@ readings = record {
   failed = λ row pivot old. refl;
   no-factor = λ k old. refl;
   zero = λ count old. refl;
-  near = λ count norm old. refl;
-  converged = λ count norm old. refl;
-  curvature = λ count norm den old. refl;
-  limit = λ count norm old. refl;
+  near = λ count squared old. refl;
+  converged = λ count squared old. refl;
+  curvature = λ count squared den old. refl;
+  limit = λ count squared old. refl;
   no-ending = λ k old. refl;
 }

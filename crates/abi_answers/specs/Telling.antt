@@ -47,7 +47,7 @@ same-factor how how' row row' pivot pivot' h w p = rw (h, w, p)
 -- ---- how a solve ended, in four places: its number, its count, the residual's squared length and the denominator; 0 and +0.0 where it carries none
 
 abbrev pub places : ℕ → ℕ → Float → Float → Places
-places how count norm denominator = record { how = how; count = count; norm = norm; denominator = denominator }
+places how count squared denominator = record { how = how; count = count; «residual_squared» = squared; denominator = denominator }
 
 abbrev pub ending : ℕ → List ℕ → List Float → Places
 ending how counts values = places how (getD counts 0 0) (getD values 0 zero32) (getD values 1 zero32)

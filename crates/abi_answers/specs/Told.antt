@@ -1,4 +1,4 @@
--- HOW A SOLVE ENDED, over the C ABI: document 01's number of the outcome, its count and its floats, in four lent places.
+-- HOW A SOLVE ENDED, over the C ABI (RULES.md § 8): the outcome's number, its count and its floats, in four lent places.
 use Prim.Native.Nat.{ℕ}
 use mathlib.Core.List.{[], _∷_}
 use Rattle.law.specs.Said.{refusalOf}

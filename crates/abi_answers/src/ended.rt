@@ -9,7 +9,7 @@ ghost use Rattle.abi_answers.specs.Told.{updatedNumber, solvedNumber, pl
 pub struct Places {
     pub how: u32,
     pub count: usize,
-    pub norm: f32,
+    pub residual_squared: f32,
     pub denominator: f32,
 }
 
@@ -32,13 +32,13 @@ pub fn solved_number(s: Solved) -> u8
 }
 
 // The four places, filled.
-pub fn filled(how: u32, count: usize, norm: f32, denominator: f32) -> Places
-    ensures { λ r. ⌜ r ≡ places how count norm denominator ⌝ }
+pub fn filled(how: u32, count: usize, residual_squared: f32, denominator: f32) -> Places
+    ensures { λ r. ⌜ r ≡ places how count «residual_squared» denominator ⌝ }
 {
     Places {
         how: how,
         count: count,
-        norm: norm,
+        residual_squared: residual_squared,
         denominator: denominator,
     }
 }
@@ -68,11 +68,11 @@ pub fn told(o: Outcome) -> Places
     }
 }
 
-pub fn after(s: Solved, how: u32, count: usize, norm: f32, denominator: f32) -> Places
-    ensures { λ r. ⌜ r ≡ placesOf s (places how count norm denominator) ⌝ }
+pub fn after(s: Solved, how: u32, count: usize, residual_squared: f32, denominator: f32) -> Places
+    ensures { λ r. ⌜ r ≡ placesOf s (places how count «residual_squared» denominator) ⌝ }
 {
     match s {
-        Solved::Refused(_) => filled(how, count, norm, denominator),
+        Solved::Refused(_) => filled(how, count, residual_squared, denominator),
         Solved::Ran(o) => told(o),
     }
 }

@@ -1,8 +1,9 @@
 // The row view's answers.
+use matrix_row_view::Placed;
 use matrix_row_view::Seen;
 use matrix_row_view::Spanned;
 ghost use mathlib.Core.Path.{_≡_};
-ghost use Rattle.abi_answers.specs.Row.{spannedNumber, spannedFirst, spannedLen, seenNumber, seenCol};
+ghost use Rattle.abi_answers.specs.Row.{spannedNumber, spannedFirst, spannedLen, seenNumber, seenCol, placedNumber, placedSlot};
 
 pub fn spanned_number(s: Spanned) -> u8
     ensures { λ r. ⌜ r ≡ spannedNumber s ⌝ }
@@ -46,5 +47,23 @@ pub fn seen_col(s: Seen, old: u32) -> u32
     match s {
         Seen::Refused(_) => old,
         Seen::Col(c) => c,
+    }
+}
+
+pub fn placed_number(p: Placed) -> u8
+    ensures { λ r. ⌜ r ≡ placedNumber p ⌝ }
+{
+    match p {
+        Placed::Refused(k) => k,
+        Placed::Slot(_) => 0,
+    }
+}
+
+pub fn placed_slot(p: Placed, old: u32) -> u32
+    ensures { λ r. ⌜ r ≡ placedSlot p old ⌝ }
+{
+    match p {
+        Placed::Refused(_) => old,
+        Placed::Slot(s) => s,
     }
 }

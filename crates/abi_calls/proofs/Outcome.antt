@@ -7,13 +7,14 @@ use Rattle.matrix_doors.specs.Building as building
 use Rattle.matrix_doors.specs.Clearing as clearing
 use Rattle.matrix_doors.specs.Multiplying as multiplying
 use Rattle.matrix_doors.specs.Pinning as pinning
+use Rattle.matrix_doors.specs.PinningMarked as pinningmarked
 use Rattle.plan_doors.specs.Planning as planning
 use Rattle.factor_doors.specs.Factorizing as factorizing
 use Rattle.factor_doors.specs.Solving as direct-solving
 use Rattle.gradient_doors.specs.Updating as updating
 use Rattle.gradient_doors.specs.Solving as solving
 use Rattle.abi_answers.specs.Numbers.{builtNumber, ranNumber, plannedNumber, of-numbered, of-told}
-use Rattle.abi_answers.specs.Row.{spannedNumber, spannedFirst, spannedLen, seenNumber, seenCol}
+use Rattle.abi_answers.specs.Row.{spannedNumber, spannedFirst, spannedLen, seenNumber, seenCol, placedNumber, placedSlot}
 use Rattle.abi_answers.specs.Direct as direct
 use Rattle.abi_answers.specs.Told.{updatedNumber, solvedNumber, placesOf}
 use Rattle.abi_calls.proofs.bracket_root as bracket-root
@@ -24,6 +25,7 @@ use Rattle.abi_calls.proofs.bracket_inverse as bracket-inverse
 use Rattle.abi_calls.proofs.row.bracket_row_first as bracket-row-first
 use Rattle.abi_calls.proofs.row.bracket_row_len as bracket-row-len
 use Rattle.abi_calls.proofs.row.bracket_row_col as bracket-row-col
+use Rattle.abi_calls.proofs.row.bracket_row_slot as bracket-row-slot
 use Rattle.abi_calls.proofs.matrix.bracket_from_pairs as bracket-from-pairs
 use Rattle.abi_calls.proofs.matrix.bracket_pattern_from_pairs as bracket-pattern-from-pairs
 use Rattle.abi_calls.proofs.matrix.bracket_block_index as bracket-block-index
@@ -31,6 +33,7 @@ use Rattle.abi_calls.proofs.matrix.bracket_diagonal_index as bracket-di
 use Rattle.abi_calls.proofs.matrix.bracket_clear_values as bracket-clear-values
 use Rattle.abi_calls.proofs.matrix.bracket_mul as bracket-mul
 use Rattle.abi_calls.proofs.matrix.bracket_make_dirichlet as bracket-make-dirichlet
+use Rattle.abi_calls.proofs.matrix.bracket_make_dirichlet_marked as bracket-make-dirichlet-marked
 use Rattle.abi_calls.proofs.plan.bracket_plan as bracket-plan
 use Rattle.abi_calls.proofs.solver.bracket_factorize as bracket-factorize
 use Rattle.abi_calls.proofs.solver.bracket_solve as bracket-solve
@@ -67,6 +70,11 @@ one-bracket-row-col = plainly bracket-row-col.ended _ (λ κs a p.
     of-told (showing.columnDoor _) (λ o. o .answer) seenNumber _ _ _ seenCol _ _
     (λ r o p. (r, past 5 (p, tt))) (λ r p. refl) (λ k r p. refl) (λ r o p. (refl, refl)) (λ w a. refl))
 
+pub one-bracket-row-slot : OneOutcome bracket-row-slot.ended (λ M. bracket-row-slot.spec)
+one-bracket-row-slot = plainly bracket-row-slot.ended _ (λ κs a p.
+    of-told (showing.slotDoor _) (λ o. o .answer) placedNumber _ _ _ placedSlot _ _
+    (λ r o p. (r, past 5 (p, tt))) (λ r p. refl) (λ k r p. refl) (λ r o p. (refl, refl)) (λ w a. refl))
+
 pub one-bracket-from-pairs : OneOutcome bracket-from-pairs.ended (λ M. bracket-from-pairs.spec)
 unfolding frompairs.work building.work
 one-bracket-from-pairs = plainly bracket-from-pairs.ended _ (λ κs a p.
@@ -99,6 +107,11 @@ one-bracket-mul = plainly bracket-mul.ended _ (λ κs a p.
 pub one-bracket-make-dirichlet : OneOutcome bracket-make-dirichlet.ended (λ M. bracket-make-dirichlet.spec)
 one-bracket-make-dirichlet = plainly bracket-make-dirichlet.ended _ (λ κs a p.
     of-numbered pinning.door (λ o. o .answer) ranNumber _ _ _
+    (λ r o. (r, past 5 (o .blocks, tt))) (λ r. refl) (λ k r. refl) (λ r o. refl) (λ w a. refl))
+
+pub one-bracket-make-dirichlet-marked : OneOutcome bracket-make-dirichlet-marked.ended (λ M. bracket-make-dirichlet-marked.spec)
+one-bracket-make-dirichlet-marked = plainly bracket-make-dirichlet-marked.ended _ (λ κs a p.
+    of-numbered pinningmarked.door (λ o. o .answer) ranNumber _ _ _
     (λ r o. (r, past 5 (o .blocks, tt))) (λ r. refl) (λ k r. refl) (λ r o. refl) (λ w a. refl))
 
 pub one-bracket-plan : OneOutcome bracket-plan.ended (λ M. bracket-plan.spec)
@@ -144,6 +157,6 @@ pub one-bracket-conjugate-gradient : OneOutcome bracket-conjugate-gradient.ended
 unfolding solving.work
 one-bracket-conjugate-gradient = plainly bracket-conjugate-gradient.ended _ (λ κs a p.
     of-told solving.door (λ o. o .answer) solvedNumber _ _ _ placesOf _ _
-    (λ r o p. (r, past 9 (o .x, (o .residual, (o .direction, (o .a-direction, (o .z, (p .how, (p .count, (p .norm, (p .denominator, tt)))))))))))
+    (λ r o p. (r, past 9 (o .x, (o .residual, (o .direction, (o .a-direction, (o .z, (p .how, (p .count, (p .«residual_squared», (p .denominator, tt)))))))))))
     (λ r p. refl) (λ k r p. refl)
     (λ r o p. (refl, refl)) (λ w a. refl))

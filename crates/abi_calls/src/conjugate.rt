@@ -53,7 +53,7 @@ pub extern "C" fn bracket_conjugate_gradient(
     z: &mut [f32],
     how: &mut u32,
     count: &mut usize,
-    norm: &mut f32,
+    residual_squared: &mut f32,
     denominator: &mut f32,
 ) -> u8
     ensures { λ r. ⌜
@@ -63,8 +63,8 @@ pub extern "C" fn bracket_conjugate_gradient(
         (now (z .entry)))
         r
         (λ a. solving.left a (now (x .exit)) (now (residual .exit)) (now (direction .exit)) (now («a_direction» .exit)) (now (z .exit)))
-        (places (now (how .entry)) (now (count .entry)) (now (norm .entry)) (now (denominator .entry)))
-        (places (now (how .exit)) (now (count .exit)) (now (norm .exit)) (now (denominator .exit))) ⌝ }
+        (places (now (how .entry)) (now (count .entry)) (now («residual_squared» .entry)) (now (denominator .entry)))
+        (places (now (how .exit)) (now (count .exit)) (now («residual_squared» .exit)) (now (denominator .exit))) ⌝ }
 {
     let s = gradient_doors::solve(
         n,
@@ -82,10 +82,10 @@ pub extern "C" fn bracket_conjugate_gradient(
         a_direction,
         z,
     );
-    let p = after(s, *how, *count, *norm, *denominator);
+    let p = after(s, *how, *count, *residual_squared, *denominator);
     *how = p.how;
     *count = p.count;
-    *norm = p.norm;
+    *residual_squared = p.residual_squared;
     *denominator = p.denominator;
     solved_number(s)
 }

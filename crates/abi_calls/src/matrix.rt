@@ -9,6 +9,7 @@ ghost use Rattle.matrix_doors.specs.Indexing as indexing;
 ghost use Rattle.matrix_doors.specs.Clearing as clearing;
 ghost use Rattle.matrix_doors.specs.Multiplying as multiplying;
 ghost use Rattle.matrix_doors.specs.Pinning as pinning;
+ghost use Rattle.matrix_doors.specs.PinningMarked as pinningmarked;
 ghost use Rattle.matrix_doors.specs.Building as building;
 ghost use Rattle.matrix_doors.specs.FromPairs as frompairs;
 ghost use Rattle.abi_answers.specs.Numbers.{builtNumber, ranNumber, foundNumber, foundSlot, Numbered};
@@ -164,4 +165,21 @@ pub extern "C" fn bracket_make_dirichlet(
         r (λ a. pinning.left a (now (blocks .exit))) ⌝ }
 {
     ran_number(matrix_doors::make_dirichlet(n, row_offsets, cols, diagonal, row, blocks))
+}
+
+#[no_mangle]
+pub extern "C" fn bracket_make_dirichlet_marked(
+    n: usize,
+    row_offsets: &[u32],
+    cols: &[u32],
+    diagonal: &[u32],
+    marks: &[u8],
+    blocks: &mut [f32],
+) -> u8
+    ensures { λ r. ⌜
+        Numbered pinningmarked.door (λ o. o .answer) ranNumber
+        (pinningmarked.given n (now («row_offsets» .entry)) (now (cols .entry)) (now (diagonal .entry)) (now (marks .entry)) (now (blocks .entry)))
+        r (λ a. pinningmarked.left a (now (blocks .exit))) ⌝ }
+{
+    ran_number(matrix_doors::make_dirichlet_marked(n, row_offsets, cols, diagonal, marks, blocks))
 }

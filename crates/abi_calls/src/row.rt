@@ -1,5 +1,7 @@
-// One row, shown: what a caller in C has in place of `for_each_block_of_row`. Each answers the refusal's number, or 0; acceptance writes the lent
-// place, and a refusal leaves it.
+// One row, shown: what a caller in C has in place of `for_each_block_of_row`, and a slot found without a test of the pattern. Each answers
+// the refusal's number, or 0; acceptance writes the lent place, and a refusal leaves it.
+use abi_answers::row::placed_number;
+use abi_answers::row::placed_slot;
 use abi_answers::row::seen_col;
 use abi_answers::row::seen_number;
 use abi_answers::row::spanned_first;
@@ -7,7 +9,7 @@ use abi_answers::row::spanned_len;
 use abi_answers::row::spanned_number;
 ghost use Rattle.matrix_row_view.specs.Showing as showing;
 ghost use Rattle.abi_answers.specs.Numbers.{Told};
-ghost use Rattle.abi_answers.specs.Row.{spannedNumber, spannedFirst, spannedLen, seenNumber, seenCol};
+ghost use Rattle.abi_answers.specs.Row.{spannedNumber, spannedFirst, spannedLen, seenNumber, seenCol, placedNumber, placedSlot};
 
 // The slot of the row's first block.
 #[no_mangle]
@@ -65,4 +67,24 @@ pub extern "C" fn bracket_row_col(
     let s = matrix_row_view::row_col(n, row_offsets, cols, row, j);
     *col = seen_col(s, *col);
     seen_number(s)
+}
+
+// The slot of the row's block with the column, 4294967295 where it has none.
+#[no_mangle]
+pub extern "C" fn bracket_row_slot(
+    n: usize,
+    row_offsets: &[u32],
+    cols: &[u32],
+    row: usize,
+    col: u32,
+    slot: &mut u32,
+) -> u8
+    ensures { λ r. ⌜
+        Told (showing.slotDoor col) (λ o. o .answer) placedNumber placedSlot
+        (showing.given n (now («row_offsets» .entry)) (now (cols .entry)) row)
+        r showing.placed (now (slot .entry)) (now (slot .exit)) ⌝ }
+{
+    let p = matrix_row_view::row_slot(n, row_offsets, cols, row, col);
+    *slot = placed_slot(p, *slot);
+    placed_number(p)
 }

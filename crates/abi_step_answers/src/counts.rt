@@ -1,4 +1,4 @@
-// The tally over the C ABI: seven counts in document 01's order of the kinds.
+// The tally over the C ABI: seven counts, the kinds in the order of the rules, module 7.
 use step_tally::Asked;
 use step_tally::Tally;
 ghost use mathlib.Core.Path.{_≡_};

@@ -11,7 +11,7 @@ pub fn bare(how: u32) -> Places
     Places {
         how: how,
         count: 0,
-        norm: 0.0,
+        residual_squared: 0.0,
         denominator: 0.0,
     }
 }

@@ -38,7 +38,7 @@ one-bracket-solve-step = plainly bracket-solve-step.ended _ (λ κs a p.
                 o .a-direction,
                 (
                   o .z,
-                  (c, (p .how, (p .count, (p .norm, (p .denominator, tt))))),
+                  (c, (p .how, (p .count, (p .«residual_squared», (p .denominator, tt))))),
                 ),
               ),
             ),
@@ -67,7 +67,7 @@ one-bracket-response-into = plainly bracket-response-into.ended _ (λ κs a p.
                   o .a-direction,
                   (
                     o .z,
-                    (c, (p .gain, (p .told .how, (p .told .count, (p .told .norm, (p .told .denominator, tt)))))),
+                    (c, (p .gain, (p .told .how, (p .told .count, (p .told .«residual_squared», (p .told .denominator, tt)))))),
                   ),
                 ),
               ),

@@ -41,7 +41,7 @@ pub extern "C" fn bracket_response_into(
     gain: &mut f32,
     how: &mut u32,
     count: &mut usize,
-    norm: &mut f32,
+    residual_squared: &mut f32,
     denominator: &mut f32,
 ) -> u8
     ensures { λ r. ⌜
@@ -53,8 +53,8 @@ pub extern "C" fn bracket_response_into(
         r
         (λ a. responding.left a (now (out .exit)) (now (rhs .exit)) (now (scratch .exit)) (now (residual .exit)) (now (direction .exit))
         (now («a_direction» .exit)) (now (z .exit)))
-        (gained (now (gain .entry)) (places (now (how .entry)) (now (count .entry)) (now (norm .entry)) (now (denominator .entry))))
-        (gained (now (gain .exit)) (places (now (how .exit)) (now (count .exit)) (now (norm .exit)) (now (denominator .exit))))
+        (gained (now (gain .entry)) (places (now (how .entry)) (now (count .entry)) (now («residual_squared» .entry)) (now (denominator .entry))))
+        (gained (now (gain .exit)) (places (now (how .exit)) (now (count .exit)) (now («residual_squared» .exit)) (now (denominator .exit))))
         (now (counts .entry)) (now (counts .exit)) ⌝ }
 {
     let r = step_response::inner::response_into(
@@ -92,13 +92,13 @@ pub extern "C" fn bracket_response_into(
         Places {
             how: *how,
             count: *count,
-            norm: *norm,
+            residual_squared: *residual_squared,
             denominator: *denominator,
         },
     );
     *how = p.how;
     *count = p.count;
-    *norm = p.norm;
+    *residual_squared = p.residual_squared;
     *denominator = p.denominator;
     responded::responded_number(r)
 }

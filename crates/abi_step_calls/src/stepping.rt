@@ -36,7 +36,7 @@ pub extern "C" fn bracket_solve_step(
     counts: &mut [u32; 7],
     how: &mut u32,
     count: &mut usize,
-    norm: &mut f32,
+    residual_squared: &mut f32,
     denominator: &mut f32,
 ) -> u8
     ensures { λ r. ⌜
@@ -48,8 +48,8 @@ pub extern "C" fn bracket_solve_step(
         r
         (λ a. stepping.left a (now (x .exit)) (now (scratch .exit)) (now (residual .exit)) (now (direction .exit)) (now («a_direction» .exit))
         (now (z .exit)))
-        (places (now (how .entry)) (now (count .entry)) (now (norm .entry)) (now (denominator .entry)))
-        (places (now (how .exit)) (now (count .exit)) (now (norm .exit)) (now (denominator .exit)))
+        (places (now (how .entry)) (now (count .entry)) (now («residual_squared» .entry)) (now (denominator .entry)))
+        (places (now (how .exit)) (now (count .exit)) (now («residual_squared» .exit)) (now (denominator .exit)))
         (now (counts .entry)) (now (counts .exit)) ⌝ }
 {
     let s = step_solve::inner::solve_step(
@@ -82,13 +82,13 @@ pub extern "C" fn bracket_solve_step(
         Places {
             how: *how,
             count: *count,
-            norm: *norm,
+            residual_squared: *residual_squared,
             denominator: *denominator,
         },
     );
     *how = p.how;
     *count = p.count;
-    *norm = p.norm;
+    *residual_squared = p.residual_squared;
     *denominator = p.denominator;
     stepped::stepped_number(s)
 }

@@ -1,4 +1,4 @@
--- Document 01's readings of the bench program, and its 9s, computed on the definition of the whole output; and what the call answers, in rooms that are
+-- The bench program's readings (RULES.md § 11), and its 9s, computed on the definition of the whole output; and what the call answers, in rooms that are
 -- long enough and too short. Assumes nothing.
 use Prim.Native.Nat.{ℕ, _≤_, _<_}
 use Prim.Native.String.{String}

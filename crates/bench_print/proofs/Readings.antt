@@ -1,4 +1,4 @@
--- Worked answers, computed: document 01's example, an empty order, the largest number, a refusal.
+-- Worked answers, computed: the example of RULES.md § 9, an empty order, the largest number, a refusal.
 use mathlib.Core.Path.{_≡_, refl}
 use mathlib.Core.List.{[], _∷_}
 use Rattle.law.specs.Bytes.{bytes}

@@ -1,4 +1,4 @@
--- DOCUMENT 01'S SENTENCES on the text, each as a proposition: which numbers a text has, when it is as described, and when it is refused by 9.
+-- THE RULES OF THE TEXT (RULES.md § 9), each as a proposition: which numbers a text has, when it is as described, and when it is refused by 9.
 use Prim.Native.Nat.{ℕ, _+_, _*_, _≤_, _<_}
 use mathlib.Core.Path.{_≡_, refl, ap}
 use mathlib.Core.Bool.{Bool, true, false, not}

@@ -21,7 +21,7 @@ read-as : List ℕ → Out
 read-as text = outcomeBy reading text (given text room)
 
 record Readings : Type 0 where
-  -- document 01's example, with its separators and leading zeros at will
+  -- the example of RULES.md § 9, with its separators and leading zeros at will
   plain : read-as (bytes "3 2 0 1 1 2") ≡ left (Text 3 2) (0 ∷ 1 ∷ 1 ∷ 2 ∷ [])
   spaced : read-as (bytes "\n 003  1\n\n0 4294967295 ") ≡ left (Text 3 1) (0 ∷ 4294967295 ∷ 7 ∷ 8 ∷ [])
   bare : read-as (bytes "0 0") ≡ left (Text 0 0) room

@@ -1,4 +1,4 @@
--- THE LANGUAGE OF THE BENCH PROGRAM'S TEXT: when a text is as document 01 describes it, and what it then says.
+-- THE LANGUAGE OF THE BENCH PROGRAM'S TEXT: when a text is as RULES.md § 9 describes it, and what it then says.
 use Prim.Native.Nat.{ℕ, _*_}
 use mathlib.Core.Path.{_≡_}
 use mathlib.Core.Bool.{Bool, true, false, _&&_}

@@ -1,4 +1,4 @@
--- Document 01's readings of the factor and of the solve with it, and two particles in the reverse order,
+-- The readings (RULES.md § 11) of the factor and of the solve with it, and two particles in the reverse order,
 -- through the doors, computed: so the theorems have something to speak of. Assumes nothing.
 use mathlib.Core.Path.{_≡_, refl, ap}
 use mathlib.Core.List.{List, [], _∷_}

@@ -1,4 +1,4 @@
--- Document 01's readings of the factor through its door, computed, with a place more in the
+-- The factor's readings (RULES.md § 11) through its door, computed, with a place more in the
 -- values than is needed; and refusals, which change nothing. Assumes nothing.
 use Prim.Native.Nat.{ℕ}
 use mathlib.Core.Path.{_≡_, refl, ap}

@@ -1,4 +1,4 @@
-// The direct solver over lent slices, soft_fem_skyline.rs's SkylineCholesky once it is planned (document 01, module 4). THE DOORS: each tests all that it
+// The direct solver over lent slices, soft_fem_skyline.rs's SkylineCholesky once it is planned (rules, module 4). THE DOORS: each tests all that it
 // is handed, refuses by number or does the work. A plan is its order, inverse, first columns and row starts; its last row start is the factor's length.
 ghost use Rattle.law.specs.Promise.{Promise};
 ghost use Rattle.factor_doors.specs.Factorizing as factorizing;

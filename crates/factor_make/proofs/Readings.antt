@@ -1,4 +1,4 @@
--- Readings of the factor, computed from the blocks: document 01's two, one whose pivot is a NaN, and
+-- Readings of the factor, computed from the blocks: the two of RULES.md § 11, one whose pivot is a NaN, and
 -- one of two particles in the reverse order, whose lower block is stored. Assumes nothing.
 use mathlib.Core.Path.{_≡_, refl}
 use mathlib.Core.List.{List, [], _∷_}

@@ -1,5 +1,5 @@
 -- CHOLESKY'S FACTOR, ENTRY BY ENTRY, without lists or places: a is the matrix, l its factor, and f r the first
--- column that row r holds. `Cholesky` is document 01's sentence on what the factor's entries are in the end;
+-- column that row r holds. `Cholesky` is the rule (module 4) on what the factor's entries are in the end;
 -- proofs/Meaning.antt shows it of what the code leaves, and proofs/Only.antt that it admits one outcome.
 use Prim.Native.Nat.{ℕ, _≤_, _<_}
 use mathlib.Core.Path.{_≡_}

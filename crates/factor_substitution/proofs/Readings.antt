@@ -1,4 +1,4 @@
--- Document 01's reading of the direct solve, computed: the factor 2, 1, 3 takes b = (6, 12) to (1, 1). Assumes nothing.
+-- The direct solve's reading (RULES.md § 11), computed: the factor 2, 1, 3 takes b = (6, 12) to (1, 1). Assumes nothing.
 use mathlib.Core.Path.{_≡_, refl}
 use mathlib.Core.List.{[], _∷_}
 use lib.Ieee.{Float, binary32, ofBits, add, sub, mul, div}

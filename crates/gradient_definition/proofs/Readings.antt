@@ -1,4 +1,4 @@
--- Readings of the definition, computed: document 01's number and values of the outcome, and x, floats as bit patterns. Assumes nothing.
+-- Readings of the definition, computed: the outcome's number and values (RULES.md § 8), and x, floats as bit patterns. Assumes nothing.
 use Prim.Native.Nat.{ℕ}
 use mathlib.Core.Path.{_≡_, refl}
 use mathlib.Core.List.{List, [], _∷_, _++_, map}
@@ -76,14 +76,14 @@ three tolerance limit =
     (floats (0x3f800000 ∷ 0x40000000 ∷ 0 ∷ 0xbf800000 ∷ 0x40400000 ∷ 0 ∷ [])) (ofBits binary32 tolerance) limit
     (floats (0xbf800000 ∷ 0x40000000 ∷ 0 ∷ 0x3f800000 ∷ 0x40400000 ∷ 0 ∷ [])))
 
--- document 01's first, one turn of it by itself
+-- the first of RULES.md § 11, one turn of it by itself
 met : After
 met =
     let v = floats (0x40400000 ∷ 0x40800000 ∷ []) in
     turn 1 (product 1 (0 ∷ 1 ∷ []) (0 ∷ []) (floats eye)) (preconditioned 1 (floats eye)) (ofBits binary32 0) (state (floats (0 ∷ 0 ∷ [])) v v (dotAll 1 v v))
 
 record Readings : Type 0 where
-  -- document 01's three: the identity, b = (3, 4), x = 0, tolerance 0; and minus the identity, b = (1, 0)
+  -- the three of RULES.md § 11: the identity, b = (3, 4), x = 0, tolerance 0; and minus the identity, b = (1, 0)
   identity : one eye (0x40400000 ∷ 0x40800000 ∷ []) 0 1 (0 ∷ 0 ∷ []) ≡ came 3 1 (0 ∷ []) (0x40400000 ∷ 0x40800000 ∷ [])
   no-turns : one eye (0x40400000 ∷ 0x40800000 ∷ []) 0 0 (0 ∷ 0 ∷ []) ≡ came 5 0 (0x41c80000 ∷ []) (0 ∷ 0 ∷ [])
   minus-identity : one anti (0x3f800000 ∷ 0 ∷ []) 0 5 (0 ∷ 0 ∷ []) ≡ came 4 0 (0x3f800000 ∷ 0xbf800000 ∷ []) (0 ∷ 0 ∷ [])

@@ -1,4 +1,4 @@
--- The definition keeps document 01's sentences on Zero, Near and Curvature and on the rescale; those on the rescale leave nothing open. Assumes nothing.
+-- The definition keeps the rules (module 5) on Zero, Near and Curvature and on the rescale; those on the rescale leave nothing open. Assumes nothing.
 use Prim.Native.Nat.{ℕ, _*_}
 use native.Mathlib.Omega.{arith}
 use mathlib.Core.Path.{_≡_, refl, ap, _∙_}

@@ -1,4 +1,4 @@
--- DOCUMENT 01'S SENTENCES ON ZERO, NEAR AND CURVATURE AND ON THE RESCALE, as propositions that name no step of the definition;
+-- THE RULES ON ZERO, NEAR AND CURVATURE AND ON THE RESCALE (RULES.md, module 5), as propositions that name no step of the definition;
 -- that the definition keeps them is proofs/Rescale.antt.
 use Prim.Native.Nat.{ℕ}
 use mathlib.Core.Path.{_≡_}

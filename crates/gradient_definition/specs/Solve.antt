@@ -1,4 +1,4 @@
--- THE CONJUGATE GRADIENT (document 01, module 5), executable. A is the matrix and P the preconditioner, each a function on vectors of 2 * n floats. One
+-- THE CONJUGATE GRADIENT (rules, module 5), executable. A is the matrix and P the preconditioner, each a function on vectors of 2 * n floats. One
 -- turn; the run, by the turns that are left; the finish apart from it, which alone rescales; and the start, with the residual worked out afresh.
 use Prim.Native.Nat.{ℕ, zero, suc, _+_, _*_, _≤_}
 use mathlib.Core.Path.{_≡_}
@@ -14,7 +14,7 @@ use Rattle.gradient_definition.specs.declared.Outcome.{Outcome}
 use Rattle.gradient_definition.specs.declared.Outcome.the-variants.{Zero, Near, Converged, Curvature, Limit}
 use Rattle.gradient_definition.specs.Vectors.{Map, advanced, retreated, redirected, lacking, scaled, zeros}
 
--- ---- document 01's number and values for each outcome
+-- ---- each outcome's number and values (RULES.md, module 5)
 
 -- its place among the tally's counts: direct is 0, refused is 6
 abbrev pub numberOf : Outcome → ℕ

@@ -1,4 +1,4 @@
-// The conjugate gradient over lent slices, soft_fem_sparse.rs's ConjugateGradient (document 01, module 5). THE DOORS: each tests all that it is
+// The conjugate gradient over lent slices, soft_fem_sparse.rs's ConjugateGradient (rules, module 5). THE DOORS: each tests all that it is
 // handed, refuses by number or does the work. Vectors are two floats to a particle, values and the preconditioner four to a block.
 use gradient_definition::Outcome;
 use gradient_refusals::refuse;

@@ -1,2 +1,2 @@
-// The conjugate gradient's preconditioner, the inverses of the diagonal blocks (document 01, module 5). `gradient_definition` has its definition.
+// The conjugate gradient's preconditioner, the inverses of the diagonal blocks (rules, module 5). `gradient_definition` has its definition.
 pub mod inner;

@@ -1,2 +1,2 @@
-// One turn of the conjugate gradient (document 01, module 5). `gradient_definition` has its definition.
+// One turn of the conjugate gradient (rules, module 5). `gradient_definition` has its definition.
 pub mod inner;

@@ -1,4 +1,4 @@
--- Document 01's limits, each named once for the definitions; src/lib.rt names the same numbers for the code, and each test's proof holds the two together.
+-- The limits (RULES.md § 2), each named once for the definitions; src/lib.rt names the same for the code, and each test's proof holds the two together.
 use Prim.Native.Nat.{ℕ}
 
 -- what a bracket model may hold

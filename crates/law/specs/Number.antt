@@ -1,4 +1,4 @@
--- DOCUMENT 01'S REFUSAL NUMBERS, each named once for the definitions; src/refusal.rt
+-- THE REFUSAL NUMBERS (RULES.md § 3), each named once for the definitions; src/refusal.rt
 -- names the same for the code, and each call's proof holds the two together.
 use Prim.Native.Nat.{ℕ}
 

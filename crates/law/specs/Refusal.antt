@@ -1,4 +1,4 @@
--- THE REFUSAL LIST of a door: numbered tests, in the order of document 01's numbers. The
+-- THE REFUSAL LIST of a door: numbered tests, in the order of the numbers (RULES.md § 3). The
 -- answer is the number of the first test that fails, and 0 where none does.
 use Prim.Native.Nat.{ℕ, zero, suc, _≤_, _<_}
 use native.Mathlib.Omega.{arith}

@@ -1,4 +1,4 @@
--- WHAT AN ANSWER SAYS: document 01's number and values for each case of an enum. A refusal says its number;
+-- WHAT AN ANSWER SAYS (RULES.md § 8): the number and values of each case of an enum. A refusal says its number;
 -- any other answer which of the cases it is, the whole numbers that it carries, and its floats.
 use Prim.Native.Nat.{ℕ}
 use mathlib.Core.List.{List}

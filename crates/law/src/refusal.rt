@@ -1,4 +1,4 @@
-// Document 01's refusal numbers, by their meaning; 0 is acceptance. specs/Number.antt has the same for the definitions.
+// The refusal numbers (RULES.md § 3), by their meaning; 0 is acceptance. specs/Number.antt has the same for the definitions.
 
 // more than 1,024 particles
 pub const TOO_MANY_PARTICLES: u8 = 1;

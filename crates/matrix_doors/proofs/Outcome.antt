@@ -7,6 +7,7 @@ use Rattle.matrix_doors.specs.Indexing as indexing
 use Rattle.matrix_doors.specs.Clearing as clearing
 use Rattle.matrix_doors.specs.Multiplying as multiplying
 use Rattle.matrix_doors.specs.Pinning as pinning
+use Rattle.matrix_doors.specs.PinningMarked as pinningmarked
 use Rattle.matrix_doors.proofs.from_pairs as from-pairs
 use Rattle.matrix_doors.proofs.pattern_from_pairs as pattern-from-pairs
 use Rattle.matrix_doors.proofs.block_index as block-index
@@ -14,6 +15,7 @@ use Rattle.matrix_doors.proofs.diagonal_index as diagonal-index
 use Rattle.matrix_doors.proofs.clear_values as clear-values
 use Rattle.matrix_doors.proofs.mul as mul
 use Rattle.matrix_doors.proofs.make_dirichlet as make-dirichlet
+use Rattle.matrix_doors.proofs.make_dirichlet_marked as make-dirichlet-marked
 
 pub one-from-pairs : OneOutcome from-pairs.ended (λ M. from-pairs.spec)
 unfolding frompairs.work building.work
@@ -44,3 +46,7 @@ one-mul = plainly mul.ended _ (λ κs a p. of-door multiplying.door _ _ (λ o. (
 pub one-make-dirichlet : OneOutcome make-dirichlet.ended (λ M. make-dirichlet.spec)
 one-make-dirichlet = plainly make-dirichlet.ended _ (λ κs a p.
     of-door pinning.door _ _ (λ o. (o .answer, past 5 (o .blocks, tt))) refl (λ k. refl) (λ w. refl))
+
+pub one-make-dirichlet-marked : OneOutcome make-dirichlet-marked.ended (λ M. make-dirichlet-marked.spec)
+one-make-dirichlet-marked = plainly make-dirichlet-marked.ended _ (λ κs a p.
+    of-door pinningmarked.door _ _ (λ o. (o .answer, past 5 (o .blocks, tt))) refl (λ k. refl) (λ w. refl))

@@ -1,4 +1,4 @@
--- Document 01's readings for the builder, computed on the definitions: what the door leaves in every list. Assumes nothing.
+-- The builder's readings (RULES.md § 11), computed on the definitions: what the door leaves in every list. Assumes nothing.
 use Prim.Native.Nat.{ℕ}
 use mathlib.Core.Path.{_≡_, refl}
 use mathlib.Core.List.{List, [], _∷_}

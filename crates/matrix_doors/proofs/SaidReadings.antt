@@ -24,6 +24,7 @@ use Rattle.matrix_doors.specs.Indexing as indexing
 use Rattle.matrix_doors.specs.Clearing as clearing
 use Rattle.matrix_doors.specs.Multiplying as multiplying
 use Rattle.matrix_doors.specs.Pinning as pinning
+use Rattle.matrix_doors.specs.PinningMarked as pinningmarked
 
 abbrev zeros : ℕ → List ℕ
 zeros k = replicate k 0
@@ -55,10 +56,12 @@ record Readings : Type 0 where
   not-multiplied : outcome multiplying.door (multiplying.given 1 (0 ∷ 1 ∷ []) (0 ∷ []) (1 ∷ []) (floats 4) (floats 2) (floats 2)) .said ≡ refused 5
   pinned : outcome pinning.door (pinning.given 1 (0 ∷ 1 ∷ []) (0 ∷ []) (0 ∷ []) 0 (floats 4)) .said ≡ carries 0 [] []
   not-pinned : outcome pinning.door (pinning.given 1 (0 ∷ 1 ∷ []) (0 ∷ []) (0 ∷ []) 1 (floats 4)) .said ≡ refused 4
+  all-pinned : outcome pinningmarked.door (pinningmarked.given 1 (0 ∷ 1 ∷ []) (0 ∷ []) (0 ∷ []) (1 ∷ []) (floats 4)) .said ≡ carries 0 [] []
+  none-pinned : outcome pinningmarked.door (pinningmarked.given 1 (0 ∷ 1 ∷ []) (0 ∷ []) (0 ∷ []) [] (floats 4)) .said ≡ refused 3
 
 readings : Readings
 unfolding alone asked outcome building.refusals building.work building.listsRoom frompairs.refusals frompairs.work frompairs.valuesRoom
-    indexing.refusals clearing.refusals multiplying.refusals multiplying.valuesRoom pinning.refusals verdict enough patternRoom blocksRoom formed
+    indexing.refusals clearing.refusals multiplying.refusals multiplying.valuesRoom pinning.refusals pinningmarked.refusals pinningmarked.markedRoom verdict enough patternRoom blocksRoom formed
     wellFormed startsOk rowOk slotOk homeOk mirrorsOk stored indexOf find seek every some over fold builtOf storedBy joined startsOf slotsOf colsOf
     startOf slotOf rowOf gather upTo
 readings = record {
@@ -76,4 +79,6 @@ readings = record {
   not-multiplied = refl;
   pinned = refl;
   not-pinned = refl;
+  all-pinned = refl;
+  none-pinned = refl;
 }

@@ -3,5 +3,6 @@ pub mod Indexing
 pub mod Clearing
 pub mod Multiplying
 pub mod Pinning
+pub mod PinningMarked
 pub mod Building
 pub mod FromPairs

@@ -6,6 +6,7 @@ ghost use Rattle.matrix_doors.specs.Indexing as indexing;
 ghost use Rattle.matrix_doors.specs.Clearing as clearing;
 ghost use Rattle.matrix_doors.specs.Multiplying as multiplying;
 ghost use Rattle.matrix_doors.specs.Pinning as pinning;
+ghost use Rattle.matrix_doors.specs.PinningMarked as pinningmarked;
 ghost use Rattle.matrix_doors.specs.Building as building;
 ghost use Rattle.matrix_doors.specs.FromPairs as frompairs;
 
@@ -182,5 +183,27 @@ pub fn make_dirichlet(
         return Ran::Refused(no);
     }
     matrix_values::pinned::make_dirichlet(n, row_offsets, cols, diagonal, row, blocks);
+    Ran::Done
+}
+
+// Every marked row pinned, as one after the other. A mark is a byte, and zero means free.
+pub fn make_dirichlet_marked(
+    n: usize,
+    row_offsets: &[u32],
+    cols: &[u32],
+    diagonal: &[u32],
+    marks: &[u8],
+    blocks: &mut [f32],
+) -> Ran
+    ensures { λ r. ⌜
+        Promise pinningmarked.door
+        (pinningmarked.given n (now («row_offsets» .entry)) (now (cols .entry)) (now (diagonal .entry)) (now (marks .entry)) (now (blocks .entry)))
+        (pinningmarked.left r (now (blocks .exit))) ⌝ }
+{
+    let no = refuse::pinning_marked(n, row_offsets, cols, diagonal, marks, blocks);
+    if no != 0 {
+        return Ran::Refused(no);
+    }
+    matrix_values::marked::make_dirichlet_marked(n, row_offsets, cols, diagonal, marks, blocks);
     Ran::Done
 }

@@ -11,6 +11,7 @@ ghost use Rattle.matrix_doors.specs.Indexing as indexing;
 ghost use Rattle.matrix_doors.specs.Clearing as clearing;
 ghost use Rattle.matrix_doors.specs.Multiplying as multiplying;
 ghost use Rattle.matrix_doors.specs.Pinning as pinning;
+ghost use Rattle.matrix_doors.specs.PinningMarked as pinningmarked;
 ghost use Rattle.matrix_doors.specs.Building as building;
 ghost use Rattle.matrix_doors.specs.FromPairs as frompairs;
 
@@ -121,6 +122,41 @@ pub fn pinning(
     }
     if n <= row {
         return law::refusal::OUT_OF_RANGE;
+    }
+    if !matrix_test::given::pattern_formed(n, row_offsets, cols, diagonal) {
+        return law::refusal::BAD_PATTERN;
+    }
+    0
+}
+
+pub fn marked_room(n: usize, row_offsets: &[u32], marks: &[u8], blocks: &[f32]) -> bool
+    requires { ⌜ n < length (now «row_offsets») ⌝ }
+    ensures { λ r. ⌜ r ≡ enough true (pinningmarked.markedRoom n (now («row_offsets» .entry)) (now (marks .entry)) (now (blocks .entry))) ⌝ }
+{
+    (n <= marks.len()) & (4 * law::wide(row_offsets[n]) <= blocks.len())
+}
+
+pub fn pinning_marked(
+    n: usize,
+    row_offsets: &[u32],
+    cols: &[u32],
+    diagonal: &[u32],
+    marks: &[u8],
+    blocks: &[f32],
+) -> u8
+    ensures { λ r. ⌜
+        r ≡ verdict
+        (pinningmarked.refusals (pinningmarked.given n (now («row_offsets» .entry)) (now (cols .entry)) (now (diagonal .entry)) (now (marks .entry))
+        (now (blocks .entry)))) ⌝ }
+{
+    if law::PARTICLES < n {
+        return law::refusal::TOO_MANY_PARTICLES;
+    }
+    if !matrix_test::given::pattern_room(n, row_offsets, cols, diagonal) {
+        return law::refusal::SHORT_BUFFER;
+    }
+    if !marked_room(n, row_offsets, marks, blocks) {
+        return law::refusal::SHORT_BUFFER;
     }
     if !matrix_test::given::pattern_formed(n, row_offsets, cols, diagonal) {
         return law::refusal::BAD_PATTERN;

@@ -1,4 +1,4 @@
--- THE BLOCKS THAT GIVEN PAIRS STORE (document 01, module 2): each row's diagonal, and a pair's two numbers in either order. So repeats and
+-- THE BLOCKS THAT GIVEN PAIRS STORE (rules, module 2): each row's diagonal, and a pair's two numbers in either order. So repeats and
 -- equal pairs add nothing, whatever their numbers. The pattern of them is well formed and has at most n + 2 * count blocks.
 use Prim.Native.Nat.{ℕ, _+_, _*_, _≤_, _<_}
 use mathlib.Core.Path.{_≡_, refl, ap, sym, _∙_}
@@ -69,7 +69,7 @@ module _ (pairs : List ℕ) (count : ℕ) where
       (at (slotsOf n (storedBy pairs count) ++ d))
   built-formed n s c d = well-formed n (storedBy pairs count) _ _ _ (begins n (storedBy pairs count) s c d) (λ r l. own r) twin
 
--- ---- the same in document 01's words
+-- ---- the same as the rules have it
 
 -- r and c are one particle, or one of the first count pairs joins them, in either order
 abbrev pub Together : List ℕ → ℕ → ℕ → ℕ → Type 0

@@ -2,3 +2,4 @@ pub mod Row
 pub mod Said
 pub mod Showing
 pub mod Meaning
+pub mod Finding

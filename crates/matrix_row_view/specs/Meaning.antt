@@ -19,7 +19,8 @@ use Rattle.matrix_shape.specs.Rows.{at, Pattern, row-end}
 use Rattle.matrix_row_view.specs.declared.inner.Span.{Span}
 use Rattle.matrix_row_view.specs.declared.Spanned.the-variants.{Slots}
 use Rattle.matrix_row_view.specs.Row.{none, spanOf, rowCols, colOr}
-use Rattle.matrix_row_view.specs.Showing.{In, given, ownStarts, ownCols, slotsOf, columnOf, refusals, rowsRoom, spanDoor, columnDoor, Ready, ready}
+use Rattle.matrix_row_view.specs.Showing.{In, given, ownStarts, ownCols, slotsOf, columnOf, refusals, rowsRoom, Ready, ready}
+use Rattle.matrix_row_view.specs.Showing.{spanDoor, columnDoor, slotDoor}
 
 -- where the row asked for starts and ends, by the row offsets as they stand
 abbrev pub start : In → ℕ
@@ -72,7 +73,7 @@ module _ (i : In) (r : Ready i) where
   shown : (t : Bool) → (leb a b && leb b m) ≡ t → spanOf (ownStarts i) (length (ownCols i)) (i .row) ≡ cond t (record { from = a; to = b }) none
   shown t e = rw e at span-is
 
-  lies : Lies i → spanOf (ownStarts i) (length (ownCols i)) (i .row) ≡ record { from = a; to = b }
+  pub lies : Lies i → spanOf (ownStarts i) (length (ownCols i)) (i .row) ≡ record { from = a; to = b }
   lies h = shown true (and-true _ _ (le-leb a b (h .0)) (le-leb b m (h .1)))
 
   own-row : Lies i → rowCols (ownStarts i) (ownCols i) (i .row) ≡ part a b (ownCols i)
@@ -81,7 +82,7 @@ module _ (i : In) (r : Ready i) where
   row-long : Lies i → length (rowCols (ownStarts i) (ownCols i) (i .row)) ≡ b - a
   row-long h = ap length (own-row h) ∙ length-part a b (ownCols i) (h .0) (omega (arith, own-long, h .1))
 
-  nothing : (Lies i → ⊥) → spanOf (ownStarts i) (length (ownCols i)) (i .row) ≡ none
+  pub nothing : (Lies i → ⊥) → spanOf (ownStarts i) (length (ownCols i)) (i .row) ≡ none
   nothing h = shown false (untrue _ (λ e. let t = both _ _ e in h (leb-true a b (t .0), leb-true b m (t .1))))
 
   no-row : (Lies i → ⊥) → length (rowCols (ownStarts i) (ownCols i) (i .row)) ≡ 0
@@ -130,5 +131,9 @@ module _ (n : ℕ) (starts cols : List ℕ) (row : ℕ) (more rest : List ℕ) (
   same-work d e g h = sym (accepts d longer 0 (sym g) refl (d .work longer) refl) ∙ e ∙ accepts d i 0 (sym h) refl (d .work i) refl
 
   pub rest-unseen : (outcome spanDoor longer ≡ outcome spanDoor i) × ((j : ℕ) → outcome (columnDoor j) longer ≡ outcome (columnDoor j) i)
-  rest-unseen =
-      (same-work spanDoor (rw (own-starts, own-cols)) accepted-too accepted, λ j. same-work (columnDoor j) (rw (own-starts, own-cols)) accepted-too accepted)
+      × ((col : ℕ) → outcome (slotDoor col) longer ≡ outcome (slotDoor col) i)
+  rest-unseen = (
+    same-work spanDoor (rw (own-starts, own-cols)) accepted-too accepted,
+    λ j. same-work (columnDoor j) (rw (own-starts, own-cols)) accepted-too accepted,
+    λ col. same-work (slotDoor col) (rw (own-starts, own-cols)) accepted-too accepted,
+  )

@@ -12,6 +12,7 @@ use Rattle.law.specs.Truth.{both}
 use Rattle.law.specs.Store.{part, length-part, part-at}
 use Rattle.law.specs.Limit.{absent}
 use Rattle.matrix_shape.specs.Rows.{at, Pattern, row-end}
+use Rattle.matrix_shape.specs.Search.{searchOf}
 use Rattle.matrix_row_view.specs.declared.inner.Span.{Span}
 use Rattle.matrix_row_view.specs.declared.inner.Slot.{Slot}
 use Rattle.matrix_row_view.specs.declared.inner.Slot.the-variants.{At, Absent}
@@ -38,6 +39,10 @@ colOr cols j = cond (ltb j (length cols)) (at cols j) absent
 -- absent too where the slot's number would not fit a usize
 abbrev pub slotOr : List ℕ → ℕ → ℕ → Slot
 slotOr cols first j = cond (ltb j (length cols) && leb first (18446744073709551615 - j)) (At (first + j)) Absent
+
+-- the slot of the row's block with the column, by halves
+abbrev pub slotIn : List ℕ → List ℕ → ℕ → ℕ → ℕ
+slotIn starts cols r col = searchOf (at cols) (spanOf starts (length cols) r .from) (spanOf starts (length cols) r .to) col
 
 -- a row's slots are in order and within the columns
 in-order : (m : ℕ) (b : Bool) (p : Span) → (b ≡ true → (p .from ≤ p .to) × (p .to ≤ m)) → (cond b p none .from ≤ cond b p none .to) × (cond b p none .to ≤ m)

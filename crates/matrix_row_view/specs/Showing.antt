@@ -1,4 +1,4 @@
--- THE DOORS THAT SHOW A ROW: `row_span` and `row_col`. They change nothing, so the answer is all that they leave.
+-- THE DOORS THAT SHOW A ROW: `row_span`, `row_col` and `row_slot`. They change nothing, so the answer is all that they leave.
 use Prim.Native.Nat.{ℕ, _+_, _≤_, _<_}
 use mathlib.Core.Path.{_≡_}
 use mathlib.Core.Bool.{true}
@@ -18,10 +18,12 @@ use Rattle.matrix_row_view.specs.declared.Spanned.{Spanned}
 use Rattle.matrix_row_view.specs.declared.Spanned.the-variants as span
 use Rattle.matrix_row_view.specs.declared.Seen.{Seen}
 use Rattle.matrix_row_view.specs.declared.Seen.the-variants as see
-use Rattle.matrix_row_view.specs.Row.{rowFirst, rowCols, colOr}
-use Rattle.matrix_row_view.specs.Said.{spannedSaid, seenSaid}
+use Rattle.matrix_row_view.specs.declared.Placed.{Placed}
+use Rattle.matrix_row_view.specs.declared.Placed.the-variants as place
+use Rattle.matrix_row_view.specs.Row.{rowFirst, rowCols, colOr, slotIn}
+use Rattle.matrix_row_view.specs.Said.{spannedSaid, seenSaid, placedSaid}
 
--- what the calls are handed; row_col is handed a block's place in the row besides
+-- what the calls are handed; row_col is handed a block's place in the row besides, row_slot its column
 pub record In : Type 0 where
   pub n : ℕ
   pub row-offsets : List ℕ
@@ -40,6 +42,9 @@ spanned r = record { answer = r; said = spannedSaid r }
 
 abbrev pub seen : Seen → Out Seen
 seen r = record { answer = r; said = seenSaid r }
+
+abbrev pub placed : Placed → Out Placed
+placed r = record { answer = r; said = placedSaid r }
 
 -- what each list needs, and what it has: as many columns as the last row offset says
 unfoldable pub rowsRoom : ℕ → List ℕ → List ℕ → Room
@@ -70,11 +75,17 @@ slotsOf i = span.Slots (rowFirst (ownStarts i) (ownCols i) (i .row)) (length (ro
 abbrev pub columnOf : In → ℕ → ℕ
 columnOf i j = colOr (rowCols (ownStarts i) (ownCols i) (i .row)) j
 
+abbrev pub slotOf : In → ℕ → ℕ
+slotOf i col = slotIn (ownStarts i) (ownCols i) (i .row) col
+
 abbrev pub spanDoor : Door In (Out Spanned)
 spanDoor = record { tests = refusals; in-order = in-order; work = λ i. spanned (slotsOf i); refuse = λ k i. spanned (span.Refused k) }
 
 abbrev pub columnDoor : ℕ → Door In (Out Seen)
 columnDoor j = record { tests = refusals; in-order = in-order; work = λ i. seen (see.Col (columnOf i j)); refuse = λ k i. seen (see.Refused k) }
+
+abbrev pub slotDoor : ℕ → Door In (Out Placed)
+slotDoor col = record { tests = refusals; in-order = in-order; work = λ i. placed (place.Slot (slotOf i col)); refuse = λ k i. placed (place.Refused k) }
 
 -- what the work relies on
 pub record Ready (i : In) : Type 0 where

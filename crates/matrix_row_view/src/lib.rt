@@ -18,6 +18,11 @@ pub enum Seen {
     Col(u32),
 }
 
+pub enum Placed {
+    Refused(u8),
+    Slot(u32),
+}
+
 // A row's slots; from 0 on, and none, where it has no block.
 pub fn row_span(n: usize, row_offsets: &[u32], cols: &[u32], row: usize) -> Spanned
     ensures { λ r. ⌜ Promise showing.spanDoor (showing.given n (now («row_offsets» .entry)) (now (cols .entry)) row) (showing.spanned r) ⌝ }
@@ -38,4 +43,15 @@ pub fn row_col(n: usize, row_offsets: &[u32], cols: &[u32], row: usize, j: usize
         return Seen::Refused(no);
     }
     Seen::Col(front::row_col(n, row_offsets, cols, row, j))
+}
+
+// The slot of the row's block with the column, 4294967295 where it has none: a search by halves, which may miss a column where the row's don't rise.
+pub fn row_slot(n: usize, row_offsets: &[u32], cols: &[u32], row: usize, col: u32) -> Placed
+    ensures { λ r. ⌜ Promise (showing.slotDoor col) (showing.given n (now («row_offsets» .entry)) (now (cols .entry)) row) (showing.placed r) ⌝ }
+{
+    let no = refuse::row(n, row_offsets, cols, row);
+    if no != 0 {
+        return Placed::Refused(no);
+    }
+    Placed::Slot(front::row_slot(n, row_offsets, cols, row, col))
 }

@@ -1,4 +1,4 @@
--- WHEN A PATTERN IS WELL FORMED, in document 01's words (`WellFormed`) and as a test that computes (`wellFormed`); each
+-- WHEN A PATTERN IS WELL FORMED, as the rules have it (RULES.md § 5: `WellFormed`) and as a test that computes (`wellFormed`); each
 -- follows from the other. A pattern of n rows and m blocks is three functions, so that it may stand in lists or
 -- anywhere else: s r is where row r starts, c k the column in slot k, d r the slot of row r's diagonal.
 use Prim.Native.Nat.{ℕ, _+_, _-_, _≤_, _<_}
@@ -61,7 +61,7 @@ startsOk n m s = (eqb (s 0) 0 && every (riseOk s) 0 n) && eqb (s n) m
 unfoldable pub wellFormed : ℕ → ℕ → (ℕ → ℕ) → (ℕ → ℕ) → (ℕ → ℕ) → Bool
 wellFormed n m s c d = (startsOk n m s && every (rowOk n s c d) 0 n) && every (mirrorsOk s c) 0 n
 
--- ---- the test passes exactly for the patterns that document 01 calls well formed
+-- ---- the test passes exactly for the patterns that are well formed by RULES.md § 5
 
 pub stored-is : (s c : ℕ → ℕ) (r col : ℕ) → stored s c r col ≡ true → Stored s c r col
 unfolding stored

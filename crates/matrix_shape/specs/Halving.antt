@@ -41,6 +41,10 @@ pub half-in : (c : ℕ → ℕ) (col low size : ℕ) → half c col low size + (
 half-in c col low size =
     ⊎-elim (λ t. omega (arith, half-up c col low size t)) (λ t. omega (arith, half-low c col low size t)) (holds-or (leb (c (low + size / 2)) col))
 
+half-from : (c : ℕ → ℕ) (col low size : ℕ) → low ≤ half c col low size
+half-from c col low size =
+    ⊎-elim (λ t. omega (arith, half-up c col low size t)) (λ t. omega (arith, half-low c col low size t)) (holds-or (leb (c (low + size / 2)) col))
+
 -- four steps are twice two
 pub halved-four : (c : ℕ → ℕ) (col low size : ℕ) → halved c col 2 (halved c col 2 low size) (left 2 size) ≡ halved c col 4 low size
 unfolding halved left
@@ -50,6 +54,11 @@ pub halved-in : (c : ℕ → ℕ) (col n low size : ℕ) → halved c col n low 
 unfolding halved left
 halved-in c col zero low size = omega arith
 halved-in c col (suc n) low size = omega (arith, half-in c col low size, halved-in c col n (half c col low size) (size - size / 2))
+
+pub halved-from : (c : ℕ → ℕ) (col n low size : ℕ) → low ≤ halved c col n low size
+unfolding halved
+halved-from c col zero low size = omega arith
+halved-from c col (suc n) low size = omega (arith, half-from c col low size, halved-from c col n (half c col low size) (size - size / 2))
 
 -- one slot stays
 pub halved-one : (c : ℕ → ℕ) (col n low : ℕ) → halved c col n low 1 ≡ low

@@ -4,4 +4,5 @@ pub mod Phases
 pub mod Made
 pub mod Index
 pub mod Halving
+pub mod Search
 pub mod Given

@@ -8,6 +8,7 @@ ghost use Rattle.law.specs.Limit.{absent};
 ghost use Rattle.matrix_shape.specs.Rows.{at};
 ghost use Rattle.matrix_shape.specs.Index.{Slots, Line, indexOf};
 ghost use Rattle.matrix_shape.specs.Halving.{halved};
+ghost use Rattle.matrix_shape.specs.Search.{searchOf};
 
 // Of the slots from `low` on, `size` of them, where the half starts that can hold the column. It has `size - size / 2` slots.
 fn one(cols: &[u32], low: usize, size: usize, col: u32) -> usize
@@ -51,10 +52,10 @@ fn near(cols: &[u32], low: usize, size: usize, col: u32) -> usize
     four(cols, low, size, col)
 }
 
-// Of the slots a..b the one that has the column; law::ABSENT where none has.
-pub fn slot_of(cols: &[u32], a: usize, b: usize, col: u32) -> u32
-    requires { ⌜ Slots (now cols) a b ⌝ }
-    ensures { λ r. ⌜ r ≡ find (λ k. eqb (getD (now (cols .entry)) k 0) col) a b absent ⌝ }
+// A search of the slots a..b by halves, whatever their columns: the slot that is left, if it has the column; law::ABSENT if not.
+pub fn searched(cols: &[u32], a: usize, b: usize, col: u32) -> u32
+    requires { ⌜ (b ≤ length (now cols)) × (b ≤ absent) ⌝ }
+    ensures { λ r. ⌜ r ≡ searchOf (at (now (cols .entry))) a b col ⌝ }
 {
     if b <= a {
         return law::ABSENT;
@@ -70,6 +71,14 @@ pub fn slot_of(cols: &[u32], a: usize, b: usize, col: u32) -> u32
         return law::ABSENT;
     }
     slot as u32
+}
+
+// Of the slots a..b the one that has the column; law::ABSENT where none has.
+pub fn slot_of(cols: &[u32], a: usize, b: usize, col: u32) -> u32
+    requires { ⌜ Slots (now cols) a b ⌝ }
+    ensures { λ r. ⌜ r ≡ find (λ k. eqb (getD (now (cols .entry)) k 0) col) a b absent ⌝ }
+{
+    searched(cols, a, b, col)
 }
 
 // The slot of row `row` that has the column; law::ABSENT where none has.

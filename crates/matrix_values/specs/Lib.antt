@@ -1,3 +1,5 @@
 pub mod Product
 pub mod Dirichlet
 pub mod Mirrors
+pub mod Marked
+pub mod AnyOrder

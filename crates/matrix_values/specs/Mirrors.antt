@@ -153,7 +153,7 @@ unfolding pinnedAt
 by-tests starts cols row l j a b e f = rw (e, f)
 
 -- a block's four numbers, one by one
-as-flat : (l : List Float) (j i : ℕ) → i < 4 → getD l (4 * j + i) nan ≡ getD (flat (blockAt l j)) i nan
+pub as-flat : (l : List Float) (j i : ℕ) → i < 4 → getD l (4 * j + i) nan ≡ getD (flat (blockAt l j)) i nan
 as-flat l j zero h = rw add-zero
 as-flat l j (suc zero) h = refl
 as-flat l j (suc (suc zero)) h = refl

@@ -1,4 +1,4 @@
--- THE REVERSE CUTHILL-MCKEE ORDER of a pattern (document 01, module 3), as a definition that computes. A pattern is its row starts and its columns.
+-- THE REVERSE CUTHILL-MCKEE ORDER of a pattern (rules, module 3), as a definition that computes. A pattern is its row starts and its columns.
 -- Recursion is over a count of places done with, so nothing is fuel; the same count is the loops' counter.
 use Prim.Native.Nat.{ℕ, zero, suc, _-_}
 use mathlib.Core.Bool.{Bool, true, false, not, cond, _&&_, _||_}

@@ -1,4 +1,4 @@
--- Document 01's starred readings of the order and its envelope, computed; and two graphs that tell what those leave open: neighbours whose
+-- The starred readings (RULES.md § 11) of the order and its envelope, computed; and two graphs that tell what those leave open: neighbours whose
 -- degrees are not in the order of their indices, and a start that moves as often as it may.
 use Prim.Native.Nat.{ℕ, _+_}
 use mathlib.Core.Path.{_≡_, refl}

@@ -1,4 +1,4 @@
--- WHERE A STRETCH STARTS (document 01, module 3), by chains and distances alone: no search, queue or level is named.
+-- WHERE A STRETCH STARTS (rules, module 3), by chains and distances alone: no search, queue or level is named.
 -- S a b says that block (a,b) is stored, d v is v's degree, U v that v is not placed yet.
 use Prim.Native.Nat.{ℕ, zero, suc, _≤_, _<_}
 use mathlib.Core.Path.{_≡_}

@@ -14,6 +14,7 @@ use Rattle.root.proofs.isqrt as isqrt
 use Rattle.root.proofs.root as root
 use Rattle.matrix_row_view.proofs.row_span as row-span
 use Rattle.matrix_row_view.proofs.row_col as row-col
+use Rattle.matrix_row_view.proofs.row_slot as row-slot
 use Rattle.matrix_doors.proofs.from_pairs as from-pairs
 use Rattle.matrix_doors.proofs.pattern_from_pairs as pattern-from-pairs
 use Rattle.matrix_doors.proofs.block_index as block-index
@@ -21,6 +22,7 @@ use Rattle.matrix_doors.proofs.diagonal_index as diagonal-index
 use Rattle.matrix_doors.proofs.clear_values as clear-values
 use Rattle.matrix_doors.proofs.mul as mul
 use Rattle.matrix_doors.proofs.make_dirichlet as make-dirichlet
+use Rattle.matrix_doors.proofs.make_dirichlet_marked as make-dirichlet-marked
 use Rattle.plan_doors.proofs.plan as plan
 use Rattle.factor_doors.proofs.factorize as factorize
 use Rattle.factor_doors.proofs.solve as factor-solve
@@ -54,6 +56,7 @@ pub record EveryCall : Type 2 where
   -- matrix_row_view
   pub matrix-row-view-row-span : OneOutcome row-span.ended (λ M. row-span.spec)
   pub matrix-row-view-row-col : OneOutcome row-col.ended (λ M. row-col.spec)
+  pub matrix-row-view-row-slot : OneOutcome row-slot.ended (λ M. row-slot.spec)
   -- matrix_doors
   pub matrix-doors-from-pairs : OneOutcome from-pairs.ended (λ M. from-pairs.spec)
   pub matrix-doors-pattern-from-pairs : OneOutcome pattern-from-pairs.ended (λ M. pattern-from-pairs.spec)
@@ -62,6 +65,7 @@ pub record EveryCall : Type 2 where
   pub matrix-doors-clear-values : OneOutcome clear-values.ended (λ M. clear-values.spec)
   pub matrix-doors-mul : OneOutcome mul.ended (λ M. mul.spec)
   pub matrix-doors-make-dirichlet : OneOutcome make-dirichlet.ended (λ M. make-dirichlet.spec)
+  pub matrix-doors-make-dirichlet-marked : OneOutcome make-dirichlet-marked.ended (λ M. make-dirichlet-marked.spec)
   -- plan_doors
   pub plan-doors-plan : OneOutcome plan.ended (λ M. plan.spec)
   -- factor_doors

@@ -15,7 +15,7 @@ abbrev pub NoGoodCallRefused : Type 1
 NoGoodCallRefused = (I O : Type 0) (d : Door I O) (i : I) (o : O) → Passed (d .tests i) → Promise d i o → o ≡ d .work i
 
 -- WHO LISTS A CONSTANT ORDER: no order is that of three particles under every single pair of them.
--- Document 01 joins two by a pair, and demand 3 lets nobody else stand between them
+-- A pair joins two (rules, module 2), and demand 3 lets nobody else stand between them
 abbrev pub NoConstantOrder : Type 0
 NoConstantOrder = (o : ℕ → ℕ) → ((a b : ℕ) → a < 3 → b < 3 → Ordered 3 (Together (a ∷ b ∷ []) 1) o) → ⊥
 

@@ -1,4 +1,4 @@
--- Document 01's reading n=4, pair 0-2, through both doors, computed: so the theorems have something to speak of. Assumes nothing.
+-- The reading n=4, pair 0-2 (RULES.md § 11), through both doors, computed: so the theorems have something to speak of. Assumes nothing.
 use mathlib.Core.Path.{_≡_, refl, ap}
 use mathlib.Core.Bool.{true}
 use mathlib.Core.List.{[], _∷_}

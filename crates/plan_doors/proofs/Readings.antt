@@ -1,4 +1,4 @@
--- The starred readings of document 01 for plans, computed: the whole plan of one particle and of the chain of three, the envelope's length of the others.
+-- The starred readings of plans (RULES.md § 11), computed: the whole plan of one particle and of the chain of three, the envelope's length of the others.
 use Prim.Native.Nat.{ℕ}
 use mathlib.Core.Path.{_≡_, refl}
 use mathlib.Core.List.{List, [], _∷_}

@@ -1,4 +1,4 @@
-// The plan of an envelope factor, soft_fem_skyline.rs's SkylineCholesky::new (document 01, module 4): the order of a pattern's particles, its
+// The plan of an envelope factor, soft_fem_skyline.rs's SkylineCholesky::new (rules, module 4): the order of a pattern's particles, its
 // inverse, and where each row of the envelope starts. THE DOOR `plan` tests all that it is handed, refuses by number or does the work.
 ghost use mathlib.Core.Path.{_≡_};
 ghost use Rattle.law.specs.Promise.{Promise};

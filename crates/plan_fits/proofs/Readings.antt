@@ -1,4 +1,4 @@
--- Readings of the tests, computed: document 01's plans for one particle and for the
+-- Readings of the tests, computed: the plans of RULES.md § 11 for one particle and for the
 -- chain 0-1-2, and neighbours of the latter that do not fit; and an entry of an envelope. Assumes nothing.
 use mathlib.Core.Path.{_≡_, refl}
 use mathlib.Core.Bool.{Bool, true, false}

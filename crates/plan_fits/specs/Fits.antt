@@ -1,4 +1,4 @@
--- WHEN A PLAN FITS, in document 01's words (`PlanRules`, `Inside`, `Fits`) and as tests that compute (`planRulesOk`,
+-- WHEN A PLAN FITS, as the rules have it (RULES.md § 6: `PlanRules`, `Inside`, `Fits`) and as tests that compute (`planRulesOk`,
 -- `insideOk`, `fitsOk`); each follows from the other. `PlanRules` is the rules that ask for no pattern. A plan for n particles
 -- is four functions, so that it may stand in lists or anywhere else: o i is the particle at position i, p q the position of
 -- particle q, f r the first column of row r, s r where row r starts. Position i has the rows 2i and 2i + 1.
@@ -91,7 +91,7 @@ firsts-is n f h i l =
     let b = both (eqb (f (2 * i)) (f (2 * i + 1))) (eqb (f (2 * i) % 2) 0) (a .0) in
     (eqb-true _ _ (b .0), (eqb-true _ _ (b .1), leb-true _ _ (a .1)))
 
--- ---- the tests pass exactly for the plans that document 01 says fit
+-- ---- the tests pass exactly for the plans that fit by RULES.md § 6
 
 module _ (n : ℕ) (o p f s : ℕ → ℕ) where
   pub planned-is : planRulesOk n o p f s ≡ true → PlanRules n o p f s

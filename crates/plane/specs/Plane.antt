@@ -1,4 +1,4 @@
--- PLANE NUMBERS: document 01's arithmetic on vectors of two numbers and blocks of two columns, over IEEE 754's operations, none of them fused.
+-- PLANE NUMBERS (rules, module 1): arithmetic on vectors of two numbers and blocks of two columns, over IEEE 754's operations, none of them fused.
 use mathlib.Core.List.{List, [], _∷_}
 use mathlib.Core.Bool.{Bool, true, false, _&&_}
 use lib.ListN.{getD}

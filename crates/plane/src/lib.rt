@@ -1,5 +1,5 @@
-// Plane numbers: a vector is two numbers, a block two columns of two numbers, both by value. Document 01's arithmetic: no operation is fused, and
-// every operand stands where document 01 has it.
+// Plane numbers: a vector is two numbers, a block two columns of two numbers, both by value. The arithmetic of the rules, module 1: no operation is fused,
+// and every operand stands where they have it.
 ghost use mathlib.Core.Path.{_≡_};
 ghost use Rattle.plane.specs.Plane.{addOf, subOf, scaleOf, dotOf, timesOf, determinantOf, inverseOf, finite, blockFinite};
 

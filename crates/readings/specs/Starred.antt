@@ -1,4 +1,4 @@
--- THE STARRED READINGS of document 01, in its order and with its numbers, as one statement about what the public calls come to.
+-- THE STARRED READINGS of RULES.md § 11, in its order and with its numbers, as one statement about what the public calls come to.
 -- `outcome door i` is what a call handed i answers and leaves: its promise is that it comes to just this. Every list is as long as the
 -- call needs. What a call writes has sevens before it, but for x in the conjugate gradient's readings, which give it.
 use Prim.Native.Nat.{ℕ, _+_, _*_}

@@ -6,6 +6,7 @@ use crate::verdict::ran;
 use law::wide;
 use replay_tokens::list::LONGEST;
 use replay_tokens::list::filled;
+use replay_tokens::list::lent_bytes;
 use replay_tokens::list::lent_reals;
 use replay_tokens::list::plain;
 use replay_tokens::list::wholes;
@@ -106,6 +107,36 @@ pub fn make_dirichlet(w: &[u32], out: &mut Room) -> usize
     }
     let mut blocks = [0f32; LONGEST];
     call_pin(w, lent_reals(w, 2, 3, &mut blocks), out)
+}
+
+fn call_pin_marked(w: &[u32], marks: &[u8], blocks: &mut [f32], out: &mut Room) -> usize
+    ensures { λ r. ⌜ r ≤ room ⌝ }
+{
+    let at = ran(
+        matrix_doors::make_dirichlet_marked(
+            wide(plain(w, 0)),
+            wholes(w, 1, 0),
+            wholes(w, 1, 1),
+            wholes(w, 1, 2),
+            marks,
+            blocks,
+        ),
+        out,
+    );
+    float_list(blocks, out, at)
+}
+
+pub fn make_dirichlet_marked(w: &[u32], out: &mut Room) -> usize
+    ensures { λ r. ⌜ r ≤ room ⌝ }
+{
+    if !filled(w, 1, 5) {
+        return 0;
+    }
+    let mut marks = [0u8; LONGEST];
+    let mut blocks = [0f32; LONGEST];
+    let m = lent_bytes(w, 1, 3, &mut marks);
+    let b = lent_reals(w, 1, 4, &mut blocks);
+    call_pin_marked(w, m, b, out)
 }
 
 fn call_mul(w: &[u32], blocks: &[f32], x: &[f32], product: &mut [f32], out: &mut Room) -> usize

@@ -42,6 +42,9 @@ fn changing(name: &[u8], w: &[u32], out: &mut Room) -> usize
     if check::same(name, b"make_dirichlet") {
         return blocks::make_dirichlet(w, out);
     }
+    if check::same(name, b"make_dirichlet_marked") {
+        return blocks::make_dirichlet_marked(w, out);
+    }
     0
 }
 

@@ -1,2 +1,2 @@
-// What a step solve and a response are counted as in the tally (document 01, module 7).
+// What a step solve and a response are counted as in the tally (rules, module 7).
 pub mod asked;

@@ -1,4 +1,4 @@
-// The step's factor; the step solve and the response, each counted in the tally that the caller lends (document 01, modules 6 and 7). THE DOORS of the
+// The step's factor; the step solve and the response, each counted in the tally that the caller lends (rules, modules 6 and 7). THE DOORS of the
 // latter two are thin functions, walks by hand over the covered calls.
 use step_response::Responded;
 use step_solve::Marked;

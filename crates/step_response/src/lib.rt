@@ -1,5 +1,5 @@
 // The response to a constraint's entries over lent slices, soft_fem_system_response.rs's
-// response_into (document 01, module 6). Its door lends the tally and stands in `step_doors`.
+// response_into (rules, module 6). Its door lends the tally and stands in `step_doors`.
 use gradient_definition::Outcome;
 
 pub mod front;

@@ -1,4 +1,4 @@
-// The step's factor and the step solve over lent slices, soft_fem_system_response.rs (document 01, module 6): the answers, the refusals and the work.
+// The step's factor and the step solve over lent slices, soft_fem_system_response.rs (rules, module 6): the answers, the refusals and the work.
 // The doors stand in `step_doors`, where a step solve is counted too.
 use gradient_definition::Outcome;
 

@@ -12,7 +12,7 @@ use Rattle.step_tally.specs.declared.Asked.the-variants.{Nothing, One}
 abbrev pub totalOf : Tally → ℕ
 totalOf t = t .direct + t .zero + t .near + t .converged + t .curvature + t .limit + t .refused
 
--- document 01's order of the kinds
+-- the kinds' order by the rules, module 7
 abbrev pub number : Kind → ℕ
 number Direct = 0
 number Zero = 1

@@ -116,7 +116,7 @@ full-stays c t [] h = refl
 full-stays c t (Nothing ∷ l) h = full-stays c t l h
 full-stays c t (One k ∷ l) h = ap (λ (b : Bool). after c (cond b (oneMore t k) t) l) (le-ltb (totalOf t) c h) ∙ full-stays c t l h
 
--- both at document 01's cap
+-- both at the cap of RULES.md § 2
 pub sum-is : (l : List Asked) → totalOf (after tally fresh l) ≡ min tally (length (solves l))
 sum-is l = sum-to tally l
 

@@ -1,4 +1,4 @@
-// The tally of step solves (document 01, module 7): seven counts that a caller lends, and one thin function that adds to one of them.
+// The tally of step solves (rules, module 7): seven counts that a caller lends, and one thin function that adds to one of them.
 // The work is `counted`, on a record by value; `count` is a walk by hand over it.
 ghost use mathlib.Core.Path.{_≡_};
 ghost use Rattle.step_tally.specs.Count.{totalOf, addedOf, countedOf};

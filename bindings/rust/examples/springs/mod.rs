@@ -1,6 +1,6 @@
 //! A sprung bracket: a grid of particles, springs along its edges and across its cells, its first column bolted to a wall.
 
-use bracket::{BlockMatrix, Matrix, Refusal, Vector};
+use bracket::{BlockMatrix, Error, Matrix, Vector};
 use std::f32::consts::FRAC_1_SQRT_2;
 
 pub struct Bracket {
@@ -17,7 +17,7 @@ struct Spring {
 }
 
 impl Spring {
-    fn add_to(&self, matrix: &mut BlockMatrix, k: f32) -> Result<(), Refusal> {
+    fn add_to(&self, matrix: &mut BlockMatrix, k: f32) -> Result<(), Error> {
         let ((a, b), [x, y]) = (self.ends, self.direction);
         let block = [[k * x * x, k * x * y], [k * y * x, k * y * y]];
         let opposite = block.map(|column| column.map(|entry| -entry));
@@ -75,7 +75,7 @@ impl Bracket {
     }
 
     /// The mass of each particle and the stiffness of each spring, with nothing pinned.
-    pub fn free_matrix(&self) -> Result<BlockMatrix, Refusal> {
+    pub fn free_matrix(&self) -> Result<BlockMatrix, Error> {
         let springs = self.springs();
         let pairs: Vec<_> = springs.iter().map(|spring| spring.ends).collect();
         let mut matrix = BlockMatrix::from_pairs(self.particles(), &pairs)?;
@@ -90,11 +90,9 @@ impl Bracket {
     }
 
     /// The same with the wall's particles pinned.
-    pub fn matrix(&self) -> Result<BlockMatrix, Refusal> {
+    pub fn matrix(&self) -> Result<BlockMatrix, Error> {
         let mut matrix = self.free_matrix()?;
-        for row in 0..self.rows {
-            matrix.make_dirichlet(self.particle(0, row))?;
-        }
+        matrix.make_dirichlet_marked(&self.pinned())?;
         Ok(matrix)
     }
 
@@ -108,9 +106,8 @@ impl Bracket {
     }
 }
 
-fn add_block(matrix: &mut BlockMatrix, row: u32, col: u32, block: Matrix) -> Result<(), Refusal> {
-    let slot = matrix.block_index(row, col)? as usize;
-    for (sum, column) in matrix.blocks[slot].iter_mut().zip(block) {
+fn add_block(matrix: &mut BlockMatrix, row: u32, col: u32, block: Matrix) -> Result<(), Error> {
+    for (sum, column) in matrix.block_mut(row, col)?.iter_mut().zip(block) {
         for (sum, entry) in sum.iter_mut().zip(column) {
             *sum += entry;
         }

@@ -1,7 +1,7 @@
 //! The bracket that the step's tests share.
 
 use crate::springs::Bracket;
-use bracket::{BlockMatrix, SoftFemParameters, Step, Vector};
+use bracket::{BlockMatrix, Matrix, SoftFemParameters, Step, Vector};
 
 pub const BRACKET: Bracket = Bracket {
     columns: 5,
@@ -24,15 +24,15 @@ pub const SPARSE: SoftFemParameters = SoftFemParameters {
 /// The bracket's step, factored by these settings.
 pub fn factored(params: &SoftFemParameters) -> Step {
     let mut step = Step::new(&BRACKET.pinned());
-    step.factorize_step_matrix(&BRACKET.matrix().unwrap(), params)
-        .unwrap();
+    let marked = step.factorize_step_matrix(&BRACKET.matrix().unwrap(), params);
+    assert!(marked.is_ok(), "{marked:?}");
     step
 }
 
 /// The matrix with every value times `k`.
 pub fn scaled(matrix: &BlockMatrix, k: f32) -> BlockMatrix {
     let mut scaled = matrix.clone();
-    for entry in scaled.blocks.as_flattened_mut().as_flattened_mut() {
+    for entry in scaled.blocks_mut().as_flattened_mut().as_flattened_mut() {
         *entry *= k;
     }
     scaled
@@ -40,6 +40,13 @@ pub fn scaled(matrix: &BlockMatrix, k: f32) -> BlockMatrix {
 
 pub fn zeros() -> Vec<Vector> {
     vec![[0.0; 2]; BRACKET.particles()]
+}
+
+/// One particle's matrix.
+pub fn single(block: Matrix) -> BlockMatrix {
+    let mut matrix = BlockMatrix::from_pairs(1, &[]).unwrap();
+    matrix.blocks_mut()[0] = block;
+    matrix
 }
 
 /// Whether no number differs by 1/10,000 or more.

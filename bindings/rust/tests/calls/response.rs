@@ -1,8 +1,8 @@
 //! Responses: the source's axis columns and what it makes of them, and what is refused.
 
-use crate::fixture::{close, factored, zeros, BRACKET, DENSE, SPARSE};
+use crate::fixture::{close, factored, single, zeros, BRACKET, DENSE, SPARSE};
 use bracket::plane::{determinant, dot};
-use bracket::{BlockMatrix, Refusal, Responded, SoftFemParameters, Step, Tally, Vector};
+use bracket::{Error, Marked, Refusal, Responded, SoftFemParameters, Step, Tally, Vector};
 
 /// The two axis responses of a particle, as the source's columns have them.
 fn columns(
@@ -13,8 +13,8 @@ fn columns(
 ) -> [Vec<Vector>; 2] {
     [[1.0, 0.0], [0.0, 1.0]].map(|axis| {
         let mut column = zeros();
-        step.response_into(&[(particle, axis)], &mut column, params, tally)
-            .unwrap();
+        let responded = step.response_into(&[(particle, axis)], &mut column, params, tally);
+        assert!(responded.unwrap().stepped().unwrap().solved());
         column
     })
 }
@@ -107,10 +107,16 @@ fn a_response_with_no_entry_left_asks_for_nothing() {
 
 #[test]
 fn a_gain_that_is_not_above_zero_is_zero() {
-    let mut matrix = BlockMatrix::from_pairs(1, &[]).unwrap();
-    matrix.blocks[0] = [[-1.0, 0.0], [0.0, -1.0]];
+    let matrix = single([[-1.0, 0.0], [0.0, -1.0]]);
     let (mut step, mut tally) = (Step::new(&[false]), Tally::default());
-    step.factorize_step_matrix(&matrix, &SPARSE).unwrap();
+    let marked = step.factorize_step_matrix(&matrix, &SPARSE);
+    assert_eq!(
+        marked,
+        Ok(Marked::Failed {
+            row: 0,
+            pivot: -1.0
+        })
+    );
     let mut out = [[0.0; 2]];
     for gradient in [[1.0, 0.0], [f32::NAN, 0.0]] {
         let responded = step
@@ -127,19 +133,13 @@ fn refused_responses_change_nothing_and_are_counted() {
     let mut out = vec![[4.0; 2]; BRACKET.particles()];
     let above = BRACKET.particles() as u32;
     let many = [(1, [1.0, 1.0]); 17];
-    let mut ask = |entries: &[(u32, Vector)], places: usize| {
-        step.response_into(entries, &mut out[..places], &DENSE, &mut tally)
+    let mut ask = |entries: &[(u32, Vector)]| {
+        let responded = step.response_into(entries, &mut out, &DENSE, &mut tally);
+        (responded, out.clone())
     };
-    assert_eq!(ask(&many, 15), Err(Refusal::TooManyEntries));
-    assert_eq!(ask(&[(above, [1.0, 1.0])], 15), Err(Refusal::OutOfRange));
-    assert_eq!(ask(&[(1, [1.0, 1.0])], 14), Err(Refusal::ShortBuffer));
-    assert!(ask(&many[..16], 15).is_ok());
-    assert_eq!(
-        tally,
-        Tally {
-            direct: 1,
-            refused: 3,
-            ..Tally::default()
-        }
-    );
+    let refused = |refusal| (Err(Error::Refused(refusal)), vec![[4.0; 2]; 15]);
+    assert_eq!(ask(&many), refused(Refusal::TooManyEntries));
+    assert_eq!(ask(&[(above, [1.0, 1.0])]), refused(Refusal::OutOfRange));
+    assert!(ask(&many[..16]).0.is_ok());
+    assert_eq!(tally.counts(), [1, 0, 0, 0, 0, 0, 2]);
 }

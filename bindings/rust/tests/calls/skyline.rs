@@ -1,8 +1,8 @@
 //! The direct solver: a plan for each pattern, a factor for each matrix of it, a solve for each load.
 
-use crate::fixture::{close, scaled};
+use crate::fixture::{close, scaled, single};
 use crate::springs::Bracket;
-use bracket::{BlockMatrix, Factored, Matrix, Refusal, SkylineCholesky};
+use bracket::{BlockMatrix, Error, Factored, Refusal, SkylineCholesky};
 
 const BRACKET: Bracket = Bracket {
     columns: 7,
@@ -17,12 +17,6 @@ fn plan(n: usize, pairs: &[(u32, u32)]) -> SkylineCholesky {
 
 fn complete(n: u32) -> Vec<(u32, u32)> {
     (1..n).flat_map(|b| (0..b).map(move |a| (a, b))).collect()
-}
-
-fn single(block: Matrix) -> BlockMatrix {
-    let mut matrix = BlockMatrix::from_pairs(1, &[]).unwrap();
-    matrix.blocks[0] = block;
-    matrix
 }
 
 #[test]
@@ -50,7 +44,7 @@ fn long_envelopes_are_refused() {
     let matrix = BlockMatrix::from_pairs(91, &complete(91)).unwrap();
     assert_eq!(
         SkylineCholesky::new(&matrix).unwrap_err(),
-        Refusal::LongEnvelope
+        Error::Refused(Refusal::LongEnvelope)
     );
 }
 
@@ -98,28 +92,14 @@ fn one_plan_serves_every_matrix_of_its_pattern() {
 fn another_pattern_is_refused_unless_the_plan_fits() {
     let chain = BlockMatrix::from_pairs(4, &[(0, 1), (1, 2), (2, 3)]).unwrap();
     let ring = BlockMatrix::from_pairs(4, &[(0, 1), (1, 2), (2, 3), (3, 0)]).unwrap();
-    let shorter = BlockMatrix::from_pairs(3, &[]).unwrap();
     let mut direct = SkylineCholesky::new(&chain).unwrap();
-    assert_eq!(direct.factorize(&ring), Err(Refusal::BadPlan));
-    assert_eq!(direct.factorize(&shorter), Err(Refusal::BadPlan));
     assert_eq!(
-        direct.factorize(&BRACKET.matrix().unwrap()),
-        Err(Refusal::ShortBuffer)
+        direct.factorize(&ring),
+        Err(Error::Refused(Refusal::BadPlan))
     );
     let mut wide = SkylineCholesky::new(&ring).unwrap();
     assert!(matches!(
         wide.factorize(&chain),
         Ok(Factored::Failed { row: 0, .. })
     ));
-}
-
-#[test]
-fn a_short_load_is_refused_and_x_stays() {
-    let matrix = BRACKET.matrix().unwrap();
-    let mut direct = SkylineCholesky::new(&matrix).unwrap();
-    direct.factorize(&matrix).unwrap();
-    let b = BRACKET.load(1.0);
-    let mut x = vec![[5.0; 2]; b.len()];
-    assert_eq!(direct.solve(&b[1..], &mut x), Err(Refusal::ShortBuffer));
-    assert_eq!(x, vec![[5.0; 2]; b.len()]);
 }
