@@ -14,6 +14,8 @@
  *
  * WHAT IS ANSWERED. A uint8_t is 0 if the call was accepted, and else the refusal's number, the lowest that applies. A
  * refusal leaves every list and place as it was; the two exceptions (7 of bracket_plan, and the counts) are named below.
+ * So look at the number first: a place tells nothing of a refused call, and 0 in `how` is a good end (BRACKET_FACTORED,
+ * BRACKET_DIRECT). Who begins with zeros and drops the number takes a refusal for a solve.
  *
  * HOW A FUNCTION IS DESCRIBED. `reads` are lists that are only read, `writes` lists that are written, `work` lists that may hold
  * anything before the call and are zeros after an accepted one, `tells` places. Behind a list's name stands how many items it
