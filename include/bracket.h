@@ -1,5 +1,5 @@
 /*
- * The bracket solvers: the C functions of the proved crates `abi_calls` and `abi_step_calls`.
+ * The bracket solvers: the C functions of the proved crates `abi_calls`, `abi_step_calls` and `abi_columns_calls`.
  * Link with libbracket.a, which bindings/archive makes (README.md, "How to call it").
  *
  * WHAT A CALLER OWES. The proofs begin behind these points; all else is tested by the calls themselves.
@@ -7,7 +7,7 @@
  *    and to write where it isn't const) and aligned for its type. A list of length 0 may be null: no pairs, no particles, no
  *    entries, or a list that isn't needed. Any other is never null.
  *  - A list or place that a call may write shares no memory with any other argument. Lists that are only read may.
- *  - A pointer without a length is a place: one item, or seven for `counts`. It is never null.
+ *  - A pointer without a length is a place: one item, or seven for `counts`, six for `ended`, four for `block`. It is never null.
  *  - A bool is 0 or 1.
  * Any numbers, lengths and contents are answered then. The calls keep no state and use no heap, so calls on different
  * lists may run at the same time. A NaN's sign and payload are left open.
@@ -15,7 +15,7 @@
  * WHAT IS ANSWERED. A uint8_t is 0 if the call was accepted, and else the refusal's number, the lowest that applies. A
  * refusal leaves every list and place as it was; the two exceptions (7 of bracket_plan, and the counts) are named below.
  * So look at the number first: a place tells nothing of a refused call, and 0 in `how` is a good end (BRACKET_FACTORED,
- * BRACKET_DIRECT). Who begins with zeros and drops the number takes a refusal for a solve.
+ * BRACKET_DIRECT, BRACKET_COMBINED). Who begins with zeros and drops the number takes a refusal for a solve.
  *
  * HOW A FUNCTION IS DESCRIBED. `reads` are lists that are only read, `writes` lists that are written, `work` lists that may hold
  * anything before the call and are zeros after an accepted one, `tells` places. Behind a list's name stands how many items it
@@ -58,6 +58,7 @@ extern "C" {
 #define BRACKET_MAX_PARTICLES 1024  /* 1 */
 #define BRACKET_MAX_PAIRS 4096      /* 2 */
 #define BRACKET_MAX_ENTRIES 16      /* 2, of a response */
+#define BRACKET_MAX_COLUMNS 16      /* 2 of one loaded particle more; 6 of a count above */
 #define BRACKET_MAX_ENVELOPE 16384  /* 7 */
 #define BRACKET_MAX_ITERATIONS 4096 /* 8 */
 
@@ -65,27 +66,30 @@ extern "C" {
 #define BRACKET_TALLY_CAP 4000000000u
 
 /*
- * How many items a list needs for n particles and their pairs; constant if n and pairs are. Once a pattern is built, cols needs
- * B and blocks 4 B. Once it is planned, the factor's values need L, which is at most BRACKET_MAX_ENVELOPE.
+ * How many items a list needs for n particles, their pairs and the loaded among them; constant if these are. Once a pattern is
+ * built, cols needs B and blocks 4 B. Once it is planned, the factor's values need L, which is at most BRACKET_MAX_ENVELOPE.
  */
 #define BRACKET_ROOM_PAIRS(pairs) (2 * (size_t)(pairs))                 /* pairs; building's work list */
 #define BRACKET_ROOM_ROW_OFFSETS(n) ((size_t)(n) + 1)                   /* row_offsets */
 #define BRACKET_ROOM_COLS(n, pairs) ((size_t)(n) + 2 * (size_t)(pairs)) /* cols, to build in */
 #define BRACKET_ROOM_BLOCKS(n, pairs) (4 * BRACKET_ROOM_COLS(n, pairs)) /* blocks, to build in */
-#define BRACKET_ROOM_PARTICLES(n) ((size_t)(n))                         /* diagonal, perm, inv_perm, pinned, marks; planning's work lists */
+#define BRACKET_ROOM_PARTICLES(n) ((size_t)(n))                         /* diagonal, perm, inv_perm, pinned, marks, column_of; planning's work lists */
 #define BRACKET_ROOM_VECTOR(n) (2 * (size_t)(n))                        /* b, x, out and every work list of floats; first */
 #define BRACKET_ROOM_ROW_START(n) (2 * (size_t)(n) + 1)                 /* row_start */
 #define BRACKET_ROOM_PRECONDITIONER(n) (4 * (size_t)(n))                /* preconditioner */
+#define BRACKET_ROOM_COLUMNS(n, loaded) (4 * (size_t)(n) * (size_t)(loaded)) /* columns; BRACKET_MAX_COLUMNS loaded are the most */
+#define BRACKET_ROOM_PARTICLE_BLOCK(n) (4 * (size_t)(n))                /* out of bracket_particle_block_from_columns */
 
 /* A refusal's number, and when it is given. Each call below lists those that it can give. */
 enum bracket_refusal {
     BRACKET_ACCEPTED = 0,
     BRACKET_TOO_MANY_PARTICLES = 1, /* more than 1,024 particles */
-    BRACKET_TOO_MANY_ENTRIES = 2,   /* more than 4,096 pairs or 16 response entries */
+    BRACKET_TOO_MANY_ENTRIES = 2,   /* more than 4,096 pairs or 16 response entries, or one more loaded particle than 16 */
     BRACKET_SHORT_BUFFER = 3,       /* a lent buffer is shorter than the call needs */
     BRACKET_OUT_OF_RANGE = 4,       /* a pair of different numbers has one at n or above; or a row or particle asked for is */
     BRACKET_BAD_PATTERN = 5,        /* a pattern isn't well formed */
-    BRACKET_BAD_PLAN = 6,           /* a plan doesn't fit its pattern */
+    BRACKET_BAD_PLAN = 6,           /* a plan doesn't fit its pattern; or a table of columns doesn't number unpinned particles
+                                       0, 1, 2 up to its count, at most 16, each once */
     BRACKET_LONG_ENVELOPE = 7,      /* the envelope needs more than 16,384 entries */
     BRACKET_BAD_SETTINGS = 8        /* the tolerance isn't finite or is below zero, or more than 4,096 iterations */
 };
@@ -105,7 +109,13 @@ enum bracket_outcome {
     BRACKET_CONVERGED = 3, /* the residual came within the threshold */
     BRACKET_CURVATURE = 4, /* a denominator wasn't above zero, or was NaN; x was rescaled */
     BRACKET_LIMIT = 5,     /* all iterations were made; x was rescaled */
-    BRACKET_NOTHING = 6    /* bracket_response_into alone: no entry was left */
+    BRACKET_NOTHING = 6    /* bracket_response_into and bracket_response_from_columns alone: no entry was left */
+};
+
+/* How a combination of columns came out, if it isn't BRACKET_NOTHING; a particle's block is one of these two. */
+enum bracket_combined {
+    BRACKET_COMBINED = 0,  /* from the columns as they stand */
+    BRACKET_NOT_LOADED = 7 /* a particle isn't loaded; there is no gain and no block */
 };
 
 /* The tally's seven counts, by their place in `counts`. */
@@ -120,8 +130,14 @@ enum bracket_count {
     BRACKET_COUNTS
 };
 
+/* How many of them are in `ended`, by the same places: all but the refused. */
+#define BRACKET_ENDED 6
+
 /* What bracket_block_index and bracket_row_slot find where no block is stored, and bracket_row_col past a row's end. */
 #define BRACKET_ABSENT UINT32_MAX
+
+/* What column_of holds for a particle that isn't loaded. */
+#define BRACKET_UNLOADED 4294967295u
 
 /* ---- The numbers in words, never null: for a message, or a log. A number that isn't one of the enum's has words too. ---- */
 
@@ -130,11 +146,12 @@ static inline const char *bracket_refusal_text(uint8_t refusal) {
     switch (refusal) {
     case BRACKET_ACCEPTED: return "accepted";
     case BRACKET_TOO_MANY_PARTICLES: return "more than 1,024 particles";
-    case BRACKET_TOO_MANY_ENTRIES: return "more than 4,096 pairs or 16 response entries";
+    case BRACKET_TOO_MANY_ENTRIES: return "more than 4,096 pairs or 16 response entries, or one more loaded particle than 16";
     case BRACKET_SHORT_BUFFER: return "a lent buffer is shorter than the call needs";
     case BRACKET_OUT_OF_RANGE: return "a pair of different numbers has one at n or above; or a row or particle asked for is at n or above";
     case BRACKET_BAD_PATTERN: return "a pattern isn't well formed";
-    case BRACKET_BAD_PLAN: return "a plan doesn't fit its pattern";
+    case BRACKET_BAD_PLAN:
+        return "a plan doesn't fit its pattern; or a table of columns doesn't number unpinned particles 0, 1, 2 up to its count, at most 16, each once";
     case BRACKET_LONG_ENVELOPE: return "the envelope needs more than 16,384 entries";
     case BRACKET_BAD_SETTINGS: return "the tolerance isn't finite and at least zero, or more than 4,096 iterations";
     case 9: return "program text isn't as described";
@@ -163,6 +180,16 @@ static inline const char *bracket_outcome_text(uint32_t how) {
     case BRACKET_LIMIT: return "not solved: all iterations were made; x was rescaled";
     case BRACKET_NOTHING: return "nothing to solve: no entry was left";
     default: return "no solve ends by this number";
+    }
+}
+
+/* Of what bracket_response_from_columns and bracket_particle_block_from_columns wrote to *how. */
+static inline const char *bracket_combined_text(uint32_t how) {
+    switch (how) {
+    case BRACKET_COMBINED: return "combined from the columns as they stand";
+    case BRACKET_NOTHING: return "nothing to combine: no entry was left";
+    case BRACKET_NOT_LOADED: return "not combined: a particle isn't loaded";
+    default: return "no combination comes out by this number";
     }
 }
 
@@ -617,6 +644,148 @@ BRACKET_MUST_USE uint8_t bracket_response_into(
     float *z, size_t z_len,
     uint32_t counts[BRACKET_COUNTS],
     float *gain, uint32_t *how, size_t *count, float *residual_squared, float *denominator);
+
+/*
+ * ---- Columns: the two axis responses of a particle, solved once and combined for any number of constraints ----
+ *
+ * A TABLE OF COLUMNS is column_of (n; the number of each particle's column, or BRACKET_UNLOADED) and the count of loaded particles,
+ * which the caller keeps: it goes in as `loaded` and comes back in *loaded_after. It is in order when it numbers unpinned particles
+ * 0, 1, 2 up to its count, each once, and the count is at most 16; a particle that is pinned after it was loaded breaks it. Places of
+ * column_of past n aren't looked at.
+ *
+ * THE COLUMNS are two vectors for each loaded particle: axis k of column c is the 2n floats of `columns` at 2 (2c + k) n. The need
+ * of 4 n loaded floats is a whole number that doesn't wrap, whatever `loaded` is, and all of them are needed, used or not.
+ *
+ * COLUMNS ARE READ AS THEY STAND. There is no mark for 'computed': after clearing and loading anew, after a change of the matrix, or
+ * with anything else in the list, a combination uses what it holds. A column from a run that broke down looks like a good one; it is
+ * seen in `ended` of bracket_compute_columns, and nowhere later. bracket_compute_columns alone counts: a refused load, combination or
+ * block is counted nowhere.
+ */
+
+/*
+ * No particle is loaded: what a table begins with. Neither what it held nor a count is looked at.
+ *   writes    column_of n
+ *   tells     loaded_after
+ *   refuses   1 n is above 1,024; 3 a list is short
+ *   accepted  column_of's first n numbers are BRACKET_UNLOADED, *loaded_after is 0
+ *   refused   column_of and *loaded_after are as they were
+ */
+BRACKET_MUST_USE uint8_t bracket_clear_columns(
+    size_t n,
+    uint32_t *column_of, size_t column_of_len,
+    size_t *loaded_after);
+
+/*
+ * Loads a particle: a new one that isn't pinned has the next number. Loading a pinned one, or one twice, changes nothing. `pinned`
+ * has a byte for each particle, zero if it is free.
+ *   reads     pinned n
+ *   writes    column_of n
+ *   tells     loaded_after
+ *   refuses   1 n is above 1,024; 2 the particle is below n, both lists have its place and show it new and unpinned, and loaded is
+ *             16 or more; 3 a list is short; 4 particle is at n or above; 6 the table of columns isn't in order
+ *   accepted  column_of[particle] is `loaded` and *loaded_after is one more; or the particle is pinned or was loaded, column_of is
+ *             as it was and *loaded_after is `loaded`
+ *   refused   column_of and *loaded_after are as they were
+ */
+BRACKET_MUST_USE uint8_t bracket_load_particle(
+    size_t n,
+    const uint8_t *pinned, size_t pinned_len,
+    size_t loaded, size_t particle,
+    uint32_t *column_of, size_t column_of_len,
+    size_t *loaded_after);
+
+/*
+ * Solves the columns of every loaded particle: a column is what bracket_response_into leaves in `out` for one entry, the particle
+ * with a gradient of 1 along the axis. The solves run by particle, ascending, axis 0 before axis 1, whatever the columns' numbers are.
+ * `factored`, values and preconditioner are taken as they stand, and a solve is by the factor if the step is dense and `factored` is
+ * true.
+ *   reads     row_offsets n + 1, cols B, diagonal n, blocks 4 B, preconditioner 4n, pinned n, column_of n; if dense perm n,
+ *             inv_perm n, first 2n, row_start 2n + 1, values L
+ *   writes    columns 4 n `loaded`
+ *   work      rhs 2n, residual 2n, direction 2n, a_direction 2n, z 2n; if dense scratch 2n
+ *   tells     counts, ended
+ *   refuses   1 n is above 1,024; 3 a list is short; 5 the pattern isn't well formed; 6 the table of columns isn't in order, on
+ *             either route, or if dense the plan doesn't fit the pattern; if dense 7 L is above 16,384; 8 the tolerance isn't finite
+ *             or is below zero, or max_iterations is above 4,096, on either route
+ *   accepted  columns' first 4 n `loaded` floats are the columns. ended[k] is how many of the 2 `loaded` solves ended in the way of
+ *             counts[k], and those counts are as many more. If none is loaded, `ended` is zeros and the counts are as they were
+ *   refused   every list and `ended` are as they were. The count of refused calls is one more
+ * The counts stay where the seven already add up to BRACKET_TALLY_CAP or more. Begin with seven zeros. Where
+ * ended[BRACKET_COUNT_CURVATURE] or ended[BRACKET_COUNT_LIMIT] isn't 0, so many columns are no solutions: what is combined from
+ * them is none either.
+ */
+BRACKET_MUST_USE uint8_t bracket_compute_columns(
+    size_t n,
+    const uint32_t *row_offsets, size_t row_offsets_len,
+    const uint32_t *cols, size_t cols_len,
+    const uint32_t *diagonal, size_t diagonal_len,
+    const float *blocks, size_t blocks_len,
+    const uint32_t *perm, size_t perm_len,
+    const uint32_t *inv_perm, size_t inv_perm_len,
+    const uint32_t *first, size_t first_len,
+    const uint32_t *row_start, size_t row_start_len,
+    const float *values, size_t values_len,
+    bool factored,
+    const float *preconditioner, size_t preconditioner_len,
+    float tolerance, size_t max_iterations, size_t max_dense_dofs,
+    const uint8_t *pinned, size_t pinned_len,
+    size_t loaded,
+    const uint32_t *column_of, size_t column_of_len,
+    float *columns, size_t columns_len,
+    float *rhs, size_t rhs_len,
+    float *scratch, size_t scratch_len,
+    float *residual, size_t residual_len,
+    float *direction, size_t direction_len,
+    float *a_direction, size_t a_direction_len,
+    float *z, size_t z_len,
+    uint32_t counts[BRACKET_COUNTS], uint32_t ended[BRACKET_ENDED]);
+
+/*
+ * The answer to a constraint without a solve: the columns of its unpinned entries, each times its gradient's number along the
+ * column's axis, added up in `out`, and the gain. A number that equals 0 is skipped before its column is looked for, so that a
+ * particle that isn't loaded does no harm with a gradient of zeros. Entry e is particle particles[e] with the gradient at 2e.
+ *   reads     pinned n, column_of n, columns 4 n `loaded`, particles `entries`, gradients 2 `entries`
+ *   writes    out 2n
+ *   tells     gain, how
+ *   refuses   1 n is above 1,024; 2 entries is above 16; 3 a list is short; 4 an entry's particle is at n or above, pinned or not;
+ *             6 the table of columns isn't in order
+ *   accepted  *how is BRACKET_COMBINED: out's first 2n floats are the sum, and *gain is the product of all unpinned entries'
+ *             gradients with it, +0.0 if that isn't above zero or is NaN. BRACKET_NOTHING, no entry is left: out is zeros, *gain
+ *             +0.0. BRACKET_NOT_LOADED: out has what was added up before the first particle that isn't loaded, and *gain is +0.0;
+ *             load it, or ask bracket_response_into
+ *   refused   out, *gain and *how are as they were
+ */
+BRACKET_MUST_USE uint8_t bracket_response_from_columns(
+    size_t n,
+    const uint8_t *pinned, size_t pinned_len,
+    size_t loaded,
+    const uint32_t *column_of, size_t column_of_len,
+    const float *columns, size_t columns_len,
+    size_t entries,
+    const uint32_t *particles, size_t particles_len,
+    const float *gradients, size_t gradients_len,
+    float *out, size_t out_len,
+    float *gain, uint32_t *how);
+
+/*
+ * Both columns of a particle, and the block of their values at the particle, M, made symmetric: (M + its transpose) 0.5.
+ *   reads     pinned n, column_of n, columns 4 n `loaded`
+ *   writes    out 4n
+ *   tells     how, block
+ *   refuses   1 n is above 1,024; 3 a list is short; 4 particle is at n or above; 6 the table of columns isn't in order
+ *   accepted  *how is BRACKET_COMBINED: out's first 2n floats are the column of axis 0, the next 2n that of axis 1, and `block` is
+ *             the block; of a pinned particle all are zeros. BRACKET_NOT_LOADED: out is as it was, and `block` is zeros
+ *   refused   out, *how and `block` are as they were
+ */
+BRACKET_MUST_USE uint8_t bracket_particle_block_from_columns(
+    size_t n,
+    const uint8_t *pinned, size_t pinned_len,
+    size_t loaded,
+    const uint32_t *column_of, size_t column_of_len,
+    const float *columns, size_t columns_len,
+    size_t particle,
+    float *out, size_t out_len,
+    uint32_t *how, float block[4]);
 
 #ifdef __cplusplus
 }

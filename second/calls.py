@@ -49,7 +49,7 @@ def pattern(n, pairs):
 def accepted(draw, word, graph, rest):
     """A call of this word on the graph, each list longer than it must be by `rest` places of junk.
 
-    With no particles a call on a row isn't accepted: its row 0 is at n.
+    With no particles a call on a row or on a particle isn't accepted: its row 0 is at n.
     """
     n, pairs = graph
     numbers, lists, _ = text.SHAPES[word]
@@ -60,7 +60,7 @@ def accepted(draw, word, graph, rest):
         call |= pattern(n, pairs)
     if "values" in lists:
         call |= dict(zip(rules.PLAN, plan.plan_of(plan.joined(call))))
-        call = {name: item for name, item in call.items() if name in ("word", "n", *lists)}
+    call = {name: item for name, item in call.items() if name in ("word", *numbers, *lists)}
     if "row" in numbers:
         call["row"] = int(draw.random() * n)
     if "col" in numbers:
@@ -73,8 +73,13 @@ def accepted(draw, word, graph, rest):
         call |= {"factored": pick(draw, [0, 1]), "counts": pick(draw, COUNTS)}
     if "entries" in numbers:
         call |= constraint(draw, n, rest)
-    if "marks" in lists:
-        call["marks"] = marks(draw, n + rest)
+    for name in "marks", "pinned":
+        if name in lists and name not in call:
+            call[name] = marks(draw, n + rest)
+    if "loaded" in numbers:
+        call |= table(draw, call["pinned"][:n])
+    if "particle" in numbers:
+        call["particle"] = int(draw.random() * n)
     call |= {name: call.get(name, []) for name in lists}
     for name, need in rules.needs(call).items():
         if name in lists and name != "counts":
@@ -94,6 +99,15 @@ def constraint(draw, n, rest):
     return {"entries": entries, "pinned": pinned, "particles": [int(draw.random() * n) for _ in range(entries)]}
 
 
+def table(draw, pinned):
+    """Some of the particles that aren't pinned are loaded, in any order."""
+    free = [particle for particle, mark in enumerate(pinned) if mark == 0]
+    draw.shuffle(free)
+    loaded = free[: int(draw.random() * (min(len(free), rules.COLUMNS) + 1))]
+    columns = {particle: column for column, particle in enumerate(loaded)}
+    return {"loaded": len(loaded), "column_of": [columns.get(particle, rules.UNLOADED) for particle in range(len(pinned))]}
+
+
 def at_the_limits(draw):
     many = (rules.PARTICLES, [])
     last = rules.PARTICLES - 1
@@ -104,6 +118,8 @@ def at_the_limits(draw):
     # Zeros keep the line short.
     yield pairs | {name: [0] * len(pairs[name]) for name in ("cols", "work")}
     yield from envelopes_at_the_limit(draw)
+    yield from loads_at_the_limit()
+    yield from columns_at_the_limit(draw)
 
 
 def envelopes_at_the_limit(draw):
@@ -114,3 +130,29 @@ def envelopes_at_the_limit(draw):
         call = accepted(draw, "plan", (90 + chain + single, complete + links), 0)
         # Ones keep the line short.
         yield call | {name: [1] * len(call[name]) for name in rules.PLAN + rules.WORK}
+
+
+def loads_at_the_limit():
+    """With 15, 16 and 17 loaded of 20, particles new, pinned, loaded and past the last, over lists that show them and that don't."""
+    for count in 15, 16, 17:
+        table = [*range(count), *[rules.UNLOADED] * (20 - count)]
+        pinned = [0] * 19 + [1]
+        for particle in 0, count, 19, 20, LARGEST:
+            load = {"word": "load_particle", "n": 20, "loaded": count, "particle": particle}
+            for places in count, count + 1, 20:
+                yield load | {"pinned": pinned, "column_of": table[:places]}
+                yield load | {"pinned": pinned[:places], "column_of": table}
+            # Lists that go on behind n.
+            yield load | {"pinned": [*pinned, 0, 0], "column_of": [*table, rules.UNLOADED, 7]}
+
+
+def columns_at_the_limit(draw):
+    """More than 16 with room for one less and for all, a count without end, and particles or none where there is none."""
+    numbers = [*range(2), *[rules.UNLOADED] * 18]
+    for word in "response_from_columns", "particle_block_from_columns":
+        call = {"word": word, "pinned": [0] * 20, "column_of": numbers, "particle": 0, "entries": 1, "particles": [0], "gradients": [1.0, -0.0]}
+        call |= {"out": junk(draw, "out", 8)}
+        for n, count, floats in (2, 16, 128), (2, 17, 128), (2, 17, 136), (2, 2, 15), (2, 2, 16), (1, LARGEST, 64), (0, 0, 0), (0, 1, 0), (0, LARGEST, 0):
+            given = call | {"n": n, "loaded": count, "columns": [0.5] * floats}
+            yield given
+            yield given | {"entries": 0}

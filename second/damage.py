@@ -121,6 +121,15 @@ def faults_of_plan(call):
         yield from (put("row_start", row, value) for value in (starts[row] + 1, max(starts[row], 1) - 1, LARGEST))
 
 
+def faults_of_table(call):
+    """A number at the count, one missing, one twice, and a pinned particle with a number."""
+    count, table = call["loaded"], call["column_of"]
+    for particle in range(call["n"]):
+        known = (count, max(count, 1) - 1, 0, LARGEST - 1, rules.UNLOADED)
+        yield from (put("column_of", particle, value) for value in known if value != table[particle])
+        yield put("pinned", particle, 0 if call["pinned"][particle] else 255)
+
+
 def faults_of_numbers(call):
     n = call["n"]
     yield from (number("n", value) for value in (n + 1, rules.PARTICLES, rules.PARTICLES + 1, LARGEST))
@@ -134,6 +143,11 @@ def faults_of_numbers(call):
         yield from (number("max_dense_dofs", value) for value in (0, max(2 * n, 1) - 1, 2 * n, LARGEST))
     if "entries" in call:
         yield from (number("entries", value) for value in (0, call["entries"] + 1, rules.ENTRIES, rules.ENTRIES + 1, LARGEST))
+    if "loaded" in call:
+        some = (call["loaded"] + 1, max(call["loaded"], 1) - 1, rules.COLUMNS, rules.COLUMNS + 1, LARGEST)
+        yield from (number("loaded", value) for value in some)
+    if "particle" in call:
+        yield from (number("particle", value) for value in (n, n + 1, LARGEST))
     if "tolerance" in call:
         yield from (number("max_iterations", value) for value in (rules.ITERATIONS, rules.ITERATIONS + 1, LARGEST))
         yield from (number("tolerance", value) for value in (-0.0, -1e-45, -1.0, math.inf, -math.inf, math.nan))
@@ -161,6 +175,8 @@ def faults(call):
         yield from itertools.islice(faults_of_plan(call), None, None, every(call))
     if "entries" in call:
         yield from (put("particles", at, value) for at in range(call["entries"]) for value in (call["n"], LARGEST))
+    if "loaded" in call:
+        yield from faults_of_table(call)
     yield from faults_of_numbers(call)
     yield from faults_of_lengths(call)
 

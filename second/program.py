@@ -1,11 +1,12 @@
 #!/usr/bin/env python3
-"""The plane numbers, the block matrix, the plan, the direct solve, the conjugate gradient and the step of the rules a second
+"""The plane numbers, the block matrix, the plan, the direct solve, the conjugate gradient, the step and its columns of the rules a second
 time. `answer`: case lines in, answer lines out. `cases SEED`: damaged input."""
 
 import sys
 
 sys.dont_write_bytecode = True
 
+import columns
 import damage
 import direct
 import gradient
@@ -17,7 +18,7 @@ import step
 import text
 
 
-WORK = matrix.WORK | {"plan": plan.plan, "factorize": direct.factorize, "solve": direct.solve} | gradient.WORK | step.WORK
+WORK = matrix.WORK | {"plan": plan.plan, "factorize": direct.factorize, "solve": direct.solve} | gradient.WORK | step.WORK | columns.WORK
 
 
 def answer(line):

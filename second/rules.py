@@ -1,4 +1,5 @@
-"""The refusals (docs/RULES.md § 3), as far as the block matrix, planning, the direct solve, the conjugate gradient and the step meet them."""
+"""The refusals (docs/RULES.md § 3), as far as the block matrix, planning, the direct solve, the conjugate gradient, the step and its columns
+meet them."""
 
 import math
 
@@ -8,6 +9,8 @@ PARTICLES = 1024
 PAIRS = 4096
 ENVELOPE = 16384
 ENTRIES = 16
+COLUMNS = 16
+UNLOADED = 4294967295
 ITERATIONS = 4096
 
 PLAN = ["perm", "inv_perm", "first", "row_start"]
@@ -29,10 +32,14 @@ def needs(call):
         room = n + 2 * count
         starts = {"pairs": 2 * count, "row_offsets": n + 1, "cols": room, "diagonal": n}
         return starts | {"blocks": 4 * room, "work": 2 * count}
-    long = dict.fromkeys([*PLAN, *WORK, "marks"], n) | {"first": 2 * n, "row_start": 2 * n + 1}
+    long = dict.fromkeys([*PLAN, *WORK, "marks", "pinned", "column_of"], n) | {"first": 2 * n, "row_start": 2 * n + 1}
     long |= dict.fromkeys([*VECTORS, "out", "rhs", "scratch"], 2 * n) | {"preconditioner": 4 * n}
     if "entries" in call:
-        long |= {"pinned": n, "particles": call["entries"], "gradients": 2 * call["entries"]}
+        long |= {"particles": call["entries"], "gradients": 2 * call["entries"]}
+    if "columns" in call:
+        long["columns"] = 4 * n * call["loaded"]
+    if call["word"] == "particle_block_from_columns":
+        long["out"] = 4 * n
     if "row_offsets" in call:
         blocks = call["row_offsets"][n]
         long |= {"row_offsets": n + 1, "cols": blocks, "diagonal": n, "blocks": 4 * blocks}
@@ -48,7 +55,16 @@ def too_many_particles(call):
 
 
 def too_many_pairs(call):
-    return call.get("count", 0) > PAIRS or call.get("entries", 0) > ENTRIES
+    return call.get("count", 0) > PAIRS or call.get("entries", 0) > ENTRIES or one_too_many(call)
+
+
+def one_too_many(call):
+    """Loading a particle that is new, as far as the lists show it, where as many as can be are loaded. This comes before 3."""
+    if call["word"] != "load_particle" or call["loaded"] < COLUMNS:
+        return False
+    particle, pinned, table = call["particle"], call["pinned"], call["column_of"]
+    shown = particle < min(call["n"], len(pinned), len(table))
+    return shown and pinned[particle] == 0 and table[particle] == UNLOADED
 
 
 def too_short(call):
@@ -67,7 +83,7 @@ def outside(call):
         return any(a != b and max(a, b) >= n for a, b in zip(given[::2], given[1::2]))
     if "entries" in call:
         return any(particle >= n for particle in call["particles"][: call["entries"]])
-    return call.get("row", -1) >= n
+    return max(call.get("row", -1), call.get("particle", -1)) >= n
 
 
 def misformed(call):
@@ -92,8 +108,16 @@ def well_formed(call):
 
 
 def misfitting(call):
-    """A plan that is handed in is there for a factor's list."""
-    return plan_counts(call) and not fits(call)
+    """A plan that is handed in is there for a factor's list, a table with the count of its columns."""
+    return plan_counts(call) and not fits(call) or "loaded" in call and not numbered(call)
+
+
+def numbered(call):
+    """The table numbers unpinned particles from 0 up to its count, at most 16, each once. What stands behind n isn't looked at."""
+    n, count = call["n"], call["loaded"]
+    given = [(column, mark) for column, mark in zip(call["column_of"][:n], call["pinned"][:n]) if column != UNLOADED]
+    free = all(mark == 0 for _, mark in given)
+    return count <= COLUMNS and free and sorted(column for column, _ in given) == list(range(count))
 
 
 def fits(call):

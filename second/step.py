@@ -70,23 +70,34 @@ def solve_step(call):
     call |= {"outcome": outcome, "floats": floats}
 
 
+def free_entries(call):
+    """A constraint's particles that aren't pinned, with their gradients."""
+    given = zip(call["particles"], zip(call["gradients"][::2], call["gradients"][1::2]), range(call["entries"]))
+    return [(p, list(g)) for p, g, _ in given if call["pinned"][p] == 0]
+
+
+def gain(free, x):
+    """One that isn't above zero is zero."""
+    total = 0.0
+    for p, g in free:
+        total = plus(total, dot(g, x[2 * p : 2 * p + 2]))
+    return total if total > 0 else 0.0
+
+
 def response_into(call):
     length = 2 * call["n"]
-    given = zip(call["particles"], zip(call["gradients"][::2], call["gradients"][1::2]), range(call["entries"]))
-    left = [(p, list(g)) for p, g, _ in given if call["pinned"][p] == 0]
+    left = free_entries(call)
     call["out"][:length] = [0.0] * length
-    outcome, floats, gain = [NOTHING, 0], [], 0.0
+    outcome, floats, x = [NOTHING, 0], [], []
     if left:
         rhs = [0.0] * length
         for p, g in left:
             rhs[2 * p : 2 * p + 2] = [plus(a, b) for a, b in zip(rhs[2 * p : 2 * p + 2], g)]
         x, outcome, floats = solved(call, rhs)
         call["out"][:length] = x
-        for p, g in left:
-            gain = plus(gain, dot(g, x[2 * p : 2 * p + 2]))
     clear(call, ["rhs"])
     clear_work(call)
-    call |= {"outcome": outcome, "floats": [gain if gain > 0 else 0.0, *floats]}
+    call |= {"outcome": outcome, "floats": [gain(left, x), *floats]}
 
 
 WORK = {"factorize_step_matrix": factorize_step_matrix, "solve_step": solve_step, "response_into": response_into}

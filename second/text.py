@@ -5,7 +5,7 @@ import struct
 
 from rules import PLAN, VECTORS, WORK
 
-FLOATS = {"blocks", "out", "values", "scratch", "preconditioner", "tolerance", "gradients", "rhs", "floats", *VECTORS}
+FLOATS = {"blocks", "columns", "out", "values", "scratch", "preconditioner", "tolerance", "gradients", "rhs", "floats", *VECTORS}
 PATTERN = ["row_offsets", "cols", "diagonal"]
 
 # How a solve ended: its outcome's number and count, and the outcome's floats, a response's gain first.
@@ -16,6 +16,11 @@ MODEL = [*PATTERN, "blocks", *PLAN, "values", "preconditioner"]
 SETTINGS = ["n", "max_iterations", "tolerance", "max_dense_dofs", "factored"]
 STEPPED = ["x", "scratch", *VECTORS[2:], "counts"]
 RESPONDED = ["out", "rhs", *STEPPED[1:]]
+COMPUTED = ["columns", "rhs", *STEPPED[1:]]
+
+# What the columns' calls are handed; what a combination or a block tells: its number, and the gain or the block.
+TABLE = ["pinned", "column_of"]
+COMBINED = ["how", "floats"]
 
 # The plain numbers, the lists, and those of the lists that the call may change; behind them what it tells, nothing of it in a refusal.
 SHAPES = {
@@ -37,6 +42,11 @@ SHAPES = {
     "solve_step": (SETTINGS, [*MODEL, "b", *STEPPED], [*STEPPED, *TOLD]),
     "response_into": ([*SETTINGS, "entries"], [*MODEL, "pinned", "particles", "gradients", *RESPONDED], [*RESPONDED, *TOLD]),
     "make_dirichlet_marked": (["n"], [*PATTERN, "marks", "blocks"], ["blocks"]),
+    "clear_columns": (["n"], ["column_of"], ["column_of"]),
+    "load_particle": (["n", "loaded", "particle"], TABLE, ["column_of"]),
+    "compute_columns": ([*SETTINGS, "loaded"], [*MODEL, *TABLE, *COMPUTED], [*COMPUTED, "ended"]),
+    "response_from_columns": (["n", "loaded", "entries"], [*TABLE, "columns", "particles", "gradients", "out"], ["out", *COMBINED]),
+    "particle_block_from_columns": (["n", "loaded", "particle"], [*TABLE, "columns", "out"], ["out", *COMBINED]),
 }
 
 # Rows have no stored cases: the comparison draws them.

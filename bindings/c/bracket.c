@@ -1,4 +1,4 @@
-/* Calls the proved functions from C: the header, the readings, empty lists, then a bracket solved on both routes. */
+/* Calls the proved functions from C: the header, the readings, columns, empty lists, then a bracket solved on both routes. */
 #include "model.h"
 
 #include <stdio.h>
@@ -64,6 +64,29 @@ static uint8_t respond(struct model *m, uint32_t particle, float *gain, uint32_t
         LENT(pinned), 1, &particle, 1, LENT(gradient), LENT(m->x), LENT(m->b), LENT(m->scratch), WORK(m), counts, gain, TOLD(t));
 }
 
+/* Both outer particles' columns, and from them what a constraint that pulls each of them down is answered. */
+static void combine_columns(struct model *m, uint32_t *counts) {
+    const uint8_t pinned[] = {1, 1, 0, 0};
+    const float down[] = {0, -1};
+    uint32_t column_of[4], ended[BRACKET_ENDED] = {0}, how = 9;
+    float columns[BRACKET_ROOM_COLUMNS(4, 2)], out[BRACKET_ROOM_VECTOR(4)], gain = 9, solved = 9;
+    size_t loaded = 9;
+    struct told t = {9, 9, 9, 9};
+    EXPECT(bracket_clear_columns(4, LENT(column_of), &loaded) == 0);
+    for (size_t p = 0; p < 4; p++) EXPECT(bracket_load_particle(4, LENT(pinned), loaded, p, LENT(column_of), &loaded) == 0);
+    EXPECT(loaded == 2);
+    EXPECT(bracket_compute_columns(
+        4, PATTERN(m), LENT(m->blocks), PLAN(m), LENT(m->values), true, LENT(m->preconditioner), 0.001f, 50, 8, LENT(pinned), loaded,
+        LENT(column_of), LENT(columns), LENT(m->b), LENT(m->scratch), WORK(m), counts, ended) == 0);
+    EXPECT(ended[BRACKET_COUNT_DIRECT] == 4 && ended[BRACKET_COUNT_CURVATURE] == 0 && ended[BRACKET_COUNT_LIMIT] == 0);
+    for (uint32_t p = 2; p < 4; p++) {
+        EXPECT(bracket_response_from_columns(
+            4, LENT(pinned), loaded, LENT(column_of), LENT(columns), 1, &p, 1, LENT(down), LENT(out), &gain, &how) == 0);
+        EXPECT(how == BRACKET_COMBINED && respond(m, p, &solved, counts, &t) == 0 && gain == solved);
+        for (size_t k = 0; k < 8; k++) EXPECT(out[k] - m->x[k] < 1e-6f && m->x[k] - out[k] < 1e-6f);
+    }
+}
+
 static void solve_bracket(void) {
     struct model m;
     struct told t = {9, 9, 9, 9};
@@ -82,12 +105,15 @@ static void solve_bracket(void) {
     EXPECT(respond(&m, 1, &gain, counts, &t) == 0 && t.how == BRACKET_NOTHING && gain == 0 && m.x[4] == 0);
     EXPECT(respond(&m, 4, &gain, counts, &t) == BRACKET_OUT_OF_RANGE);
     EXPECT(same(counts, (const uint32_t[]){2, 0, 0, 1, 0, 0, 2}, BRACKET_COUNTS));
+    combine_columns(&m, counts);
+    EXPECT(same(counts, (const uint32_t[]){8, 0, 0, 1, 0, 0, 2}, BRACKET_COUNTS));
 }
 
 /* The word handed in says how the program was built. */
 int main(int words, char **word) {
     read_header();
     read_all();
+    read_columns();
     lend_nothing();
     solve_bracket();
     printf("bindings: from C%s%s, %d facts asked for, %d do not hold\n", words > 1 ? " " : "", words > 1 ? word[1] : "", facts, failures);

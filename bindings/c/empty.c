@@ -101,6 +101,32 @@ static void solve_nothing(void) {
     EXPECT(same(counts, (const uint32_t[]){1, 0, 0, 0, 0, 0, 2}, BRACKET_COUNTS));
 }
 
+/* Columns of no particles, and of one whose lists aren't lent. A count above 0 is no table of none. */
+static void column_of_nothing(void) {
+    const uint32_t start[1] = {0};
+    uint32_t counts[BRACKET_COUNTS] = {0}, ended[BRACKET_ENDED] = {7, 7, 7, 7, 7, 7}, how = 9;
+    size_t loaded = 7;
+    float gain = 9, block[4] = {9, 9, 9, 9};
+    EXPECT(bracket_clear_columns(1, NONE, &loaded) == BRACKET_SHORT_BUFFER && loaded == 7);
+    EXPECT(bracket_load_particle(1, NONE, 0, 0, NONE, &loaded) == BRACKET_SHORT_BUFFER);
+    EXPECT(bracket_load_particle(0, NONE, 0, 0, NONE, &loaded) == BRACKET_OUT_OF_RANGE && loaded == 7);
+    EXPECT(bracket_clear_columns(0, NONE, &loaded) == 0 && loaded == 0);
+    EXPECT(bracket_compute_columns(
+        1, NO_PATTERN, NONE, NO_PLAN, NONE, false, NONE, 0, 1, 0, NONE, 0, NONE, NONE, NONE, NONE, NO_WORK, counts, ended) == BRACKET_SHORT_BUFFER);
+    EXPECT(bracket_compute_columns(
+        0, BARE_PATTERN(start), NONE, BARE_PLAN(start), NONE, true, NONE, 0, 1, 0, NONE, 1, NONE, NONE, NONE, NONE, NO_WORK, counts, ended)
+        == BRACKET_BAD_PLAN && ended[0] == 7);
+    EXPECT(bracket_compute_columns(
+        0, BARE_PATTERN(start), NONE, BARE_PLAN(start), NONE, true, NONE, 0, 1, 0, NONE, 0, NONE, NONE, NONE, NONE, NO_WORK, counts, ended) == 0);
+    EXPECT(same(ended, (const uint32_t[]){0, 0, 0, 0, 0, 0}, BRACKET_ENDED));
+    EXPECT(same(counts, (const uint32_t[]){0, 0, 0, 0, 0, 0, 2}, BRACKET_COUNTS));
+    EXPECT(bracket_response_from_columns(1, NONE, 0, NONE, NONE, 0, NONE, NONE, NONE, &gain, &how) == BRACKET_SHORT_BUFFER);
+    EXPECT(bracket_response_from_columns(0, NONE, 1, NONE, NONE, 0, NONE, NONE, NONE, &gain, &how) == BRACKET_BAD_PLAN && how == 9 && gain == 9);
+    EXPECT(bracket_response_from_columns(0, NONE, 0, NONE, NONE, 0, NONE, NONE, NONE, &gain, &how) == 0 && how == BRACKET_NOTHING && gain == 0);
+    EXPECT(bracket_particle_block_from_columns(1, NONE, 0, NONE, NONE, 0, NONE, &how, block) == BRACKET_SHORT_BUFFER);
+    EXPECT(bracket_particle_block_from_columns(0, NONE, 1, NONE, NONE, 0, NONE, &how, block) == BRACKET_OUT_OF_RANGE && block[0] == 9);
+}
+
 /* One particle with the identity, iterated: no plan, factor or scratch is lent, and to the response no entry. */
 static void step_without_a_plan(void) {
     struct model m;
@@ -123,6 +149,13 @@ static void step_without_a_plan(void) {
         NONE, WORK(&m), counts, &gain, TOLD(&t)) == 0);
     EXPECT(t.how == BRACKET_NOTHING && gain == 0 && m.x[0] == 0);
     EXPECT(same(counts, (const uint32_t[]){0, 0, 0, 1, 0, 0, 0}, BRACKET_COUNTS));
+    const uint32_t column_of[1] = {0};
+    uint32_t ended[BRACKET_ENDED] = {7, 7, 7, 7, 7, 7};
+    float columns[4];
+    EXPECT(bracket_compute_columns(
+        1, PATTERN(&m), LENT(m.blocks), NO_PLAN, NONE, false, LENT(m.preconditioner), 0, 5, 1, LENT(pinned), 1, LENT(column_of), LENT(columns),
+        LENT(m.b), NONE, WORK(&m), counts, ended) == 0);
+    EXPECT(same(ended, (const uint32_t[]){0, 0, 0, 2, 0, 0}, BRACKET_ENDED) && columns[0] == 1 && columns[1] == 0 && columns[3] == 1);
 }
 
 void lend_nothing(void) {
@@ -131,5 +164,6 @@ void lend_nothing(void) {
     work_on_nothing();
     factor_nothing();
     solve_nothing();
+    column_of_nothing();
     step_without_a_plan();
 }

@@ -6,6 +6,7 @@
 static void read_limits(void) {
     EXPECT(BRACKET_MAX_PARTICLES == 1024 && BRACKET_MAX_PAIRS == 4096 && BRACKET_MAX_ENTRIES == 16);
     EXPECT(BRACKET_MAX_ENVELOPE == 16384 && BRACKET_MAX_ITERATIONS == 4096);
+    EXPECT(BRACKET_MAX_COLUMNS == 16 && BRACKET_UNLOADED == 4294967295 && BRACKET_ENDED == 6 && BRACKET_ENDED == BRACKET_COUNT_REFUSED);
     EXPECT(BRACKET_TALLY_CAP == 4000000000 && BRACKET_ABSENT == 4294967295 && BRACKET_COUNTS == 7);
 }
 
@@ -17,6 +18,7 @@ static void read_rooms(void) {
     const size_t pairs = BRACKET_ROOM_PAIRS(2), cols = BRACKET_ROOM_COLS(3, 2), blocks = BRACKET_ROOM_BLOCKS(3, 2);
     EXPECT(pairs == 4 && cols == 7 && blocks == 28 && BRACKET_ROOM_ROW_OFFSETS(3) == 4 && BRACKET_ROOM_PARTICLES(3) == 3);
     EXPECT(BRACKET_ROOM_VECTOR(3) == 6 && BRACKET_ROOM_ROW_START(3) == 7 && BRACKET_ROOM_PRECONDITIONER(3) == 12);
+    EXPECT(BRACKET_ROOM_COLUMNS(3, 2) == 24 && BRACKET_ROOM_COLUMNS(1024, 16) == 65536 && BRACKET_ROOM_PARTICLE_BLOCK(3) == 12);
     for (size_t k = 0; k < 7; k++) {
         const uint8_t refused = bracket_from_pairs(
             3, 2, chain, pairs - (k == 1), m.row_offsets, BRACKET_ROOM_ROW_OFFSETS(3) - (k == 2), m.cols, cols - (k == 3),
@@ -76,6 +78,11 @@ static void read_words(void) {
     for (uint32_t how = BRACKET_DIRECT; how <= BRACKET_CONVERGED; how++) EXPECT(begins(bracket_outcome_text(how), "solved"));
     EXPECT(begins(bracket_outcome_text(BRACKET_CURVATURE), "not solved") && begins(bracket_outcome_text(BRACKET_LIMIT), "not solved"));
     EXPECT(begins(bracket_outcome_text(BRACKET_NOTHING), "nothing to solve"));
+    EXPECT(begins(bracket_combined_text(BRACKET_COMBINED), "combined") && begins(bracket_combined_text(BRACKET_NOTHING), "nothing to combine"));
+    EXPECT(begins(bracket_combined_text(BRACKET_NOT_LOADED), "not combined"));
+    for (uint32_t how = 1; how < 10; how++)
+        if (how != BRACKET_NOTHING && how != BRACKET_NOT_LOADED) EXPECT(begins(bracket_combined_text(how), "no combination"));
+    EXPECT(begins(bracket_combined_text(UINT32_MAX), "no combination"));
 }
 
 void read_header(void) {

@@ -50,6 +50,9 @@ bool same(const uint32_t *list, const uint32_t *wanted, size_t count);
 /* The starred readings (docs/RULES.md, section 11), marked particles pinned, and refused calls (readings.c). */
 void read_all(void);
 
+/* The calls over columns (columns.c). */
+void read_columns(void);
+
 /* What the header itself says: limits, lengths and words (header.c). */
 void read_header(void);
 

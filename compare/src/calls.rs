@@ -46,7 +46,12 @@ pub fn same(operation: Operation, a: &Left, b: &Left) -> bool {
 /// reading of the Rust's loop tells is taken for true only where that reading is the Rust's: asked last, so
 /// that it is the proved answer that shows a wrong Rust.
 pub fn beside_rust(judged: &mut Judged, call: &Call) -> Left {
-    let (proved, rust) = (doors::left(call), blocks::left(call));
+    beside(judged, call, blocks::left(call))
+}
+
+/// The same, where what the Rust leaves is known.
+pub fn beside(judged: &mut Judged, call: &Call, rust: Left) -> Left {
+    let proved = doors::left(call);
     let alike = same(call.operation, &proved, &rust);
     judged.count(alike, || [call.line(), proved.line(call), rust.line(call)]);
     let misread = alike && rust.misread;

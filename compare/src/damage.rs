@@ -42,7 +42,10 @@ fn plan_at(call: &Call) -> Option<usize> {
 /// An item of the call's needed part becomes its neighbour, another item, or a number at a limit.
 fn change_item(draw: &mut Draw, call: &mut Call, needs: &[usize]) {
     let tested = match call.operation {
-        Operation::Factorize | Operation::FactorizeStepMatrix | Operation::SolveStep => 8,
+        Operation::Factorize
+        | Operation::FactorizeStepMatrix
+        | Operation::SolveStep
+        | Operation::ComputeColumns => 8,
         Operation::ResponseInto => 9,
         _ => call.lists.len().min(4),
     };
@@ -70,10 +73,10 @@ fn change_item(draw: &mut Draw, call: &mut Call, needs: &[usize]) {
 
 /// The pattern loses a block and stays in order, so that a mirror or a diagonal is missing.
 fn drop_block(draw: &mut Draw, call: &mut Call) {
-    let count = call.lists[1].len();
-    if !call.operation.takes_pattern() || count == 0 {
+    if !call.operation.takes_pattern() || call.lists[1].is_empty() {
         return;
     }
+    let count = call.lists[1].len();
     let slot = below(draw, count);
     let col = call.lists[1].remove(slot);
     call.lists[1].push(col);

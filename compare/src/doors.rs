@@ -2,10 +2,10 @@
 
 use crate::lend::UNTOUCHED;
 use crate::sys::c::*;
-use crate::{endings, step};
+use crate::{column_calls, endings, step};
 use oracle::blocks::bytes;
 use oracle::call::Operation::*;
-use oracle::call::{Call, Left};
+use oracle::call::{Call, Left, COLUMNS};
 
 /// What a call says besides its number and its lists: the slot that it found, or how a factorization
 /// came out, and where.
@@ -127,6 +127,7 @@ pub fn left(call: &Call) -> Left {
     let mut left = match call.operation {
         ConjugateGradient => endings::left(&mut after),
         FactorizeStepMatrix | SolveStep | ResponseInto => step::left(&mut after),
+        operation if COLUMNS.contains(&operation) => column_calls::left(&mut after),
         _ => said(&mut after),
     };
     let first_changed = call.operation.first_changed();

@@ -1,6 +1,7 @@
 //! The work behind the doors: the C functions of the crate `abi_timing`, for timing alone. They test
 //! nothing, so only accepted input may be handed to them, in lists of just the needed length.
 
+use crate::step::seven;
 use oracle::call::Call;
 use std::hint::black_box;
 
@@ -50,6 +51,21 @@ declared! {
         particles: &[u32], gradients: &[f32], out: &mut [f32], rhs: &mut [f32], scratch: &mut [f32],
         residual: &mut [f32], direction: &mut [f32], a_direction: &mut [f32], z: &mut [f32]
     ) -> f32;
+    fn inside_compute_columns(
+        n: usize, row_offsets: &[u32], cols: &[u32], diagonal: &[u32], blocks: &[f32], perm: &[u32],
+        inv_perm: &[u32], first: &[u32], row_start: &[u32], values: &[f32], factored: bool, preconditioner: &[f32],
+        tolerance: f32, max_iterations: usize, max_dense_dofs: usize, pinned: &[u8], loaded: usize, column_of: &[u32],
+        columns: &mut [f32], rhs: &mut [f32], scratch: &mut [f32], residual: &mut [f32], direction: &mut [f32],
+        a_direction: &mut [f32], z: &mut [f32], counts: &mut [u32; 7], ended: &mut [u32; 6]
+    );
+    fn inside_response_from_columns(
+        n: usize, pinned: &[u8], loaded: usize, column_of: &[u32], columns: &[f32], entries: usize, particles: &[u32],
+        gradients: &[f32], out: &mut [f32], gain: &mut f32, how: &mut u32
+    );
+    fn inside_particle_block(
+        n: usize, pinned: &[u8], loaded: usize, column_of: &[u32], columns: &[f32], particle: usize, out: &mut [f32],
+        how: &mut u32, block: &mut [f32; 4]
+    );
 }
 
 const SHAPE: &str = "a call has the numbers and lists of its operation";
@@ -197,4 +213,45 @@ pub fn respond(call: &mut Call, pinned: &mut [u8]) -> f32 {
         },
         _ => unreachable!("{SHAPE}"),
     }
+}
+
+/// By the factor. How many solves ended in each way.
+pub fn compute_columns(call: &mut Call, pinned: &mut [u8]) -> [u32; 6] {
+    let mut ended = [0; 6];
+    match (&call.numbers[..], &mut call.lists[..]) {
+        (
+            &[n, limit, tolerance, dense, factored, loaded],
+            [r, c, d, blocks, perm, inv_perm, first, row_start, values, p, _, table, columns, rhs, scratch, residual, direction, a_direction, z, counts],
+        ) => unsafe {
+            let tolerance = f32::from_bits(tolerance as u32);
+            let counts = seven(counts);
+            lend!(inside_compute_columns(n; r, c, d, blocks, perm, inv_perm, first, row_start, values; factored != 0; p; tolerance, limit, dense;
+                pinned; loaded; table, columns, rhs, scratch, residual, direction, a_direction, z; counts, &mut ended;));
+        },
+        _ => unreachable!("{SHAPE}"),
+    }
+    ended
+}
+
+/// The gain.
+pub fn combine(call: &mut Call, pinned: &mut [u8]) -> f32 {
+    let (mut gain, mut how) = (0.0, 0);
+    match (&call.numbers[..], &mut call.lists[..]) {
+        (&[n, loaded, entries], [_, table, columns, particles, gradients, out]) => unsafe {
+            lend!(inside_response_from_columns(n; pinned; loaded; table, columns; entries; particles, gradients, out; &mut gain, &mut how;));
+        },
+        _ => unreachable!("{SHAPE}"),
+    }
+    gain
+}
+
+pub fn block(call: &mut Call, pinned: &mut [u8]) -> [f32; 4] {
+    let (mut how, mut block) = (0, [0.0; 4]);
+    match (&call.numbers[..], &mut call.lists[..]) {
+        (&[n, loaded, particle], [_, table, columns, out]) => unsafe {
+            lend!(inside_particle_block(n; pinned; loaded; table, columns; particle; out; &mut how, &mut block;));
+        },
+        _ => unreachable!("{SHAPE}"),
+    }
+    block
 }

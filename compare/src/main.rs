@@ -8,6 +8,11 @@ mod sys;
 
 mod buffers;
 mod calls;
+mod column_calls;
+mod column_damage;
+mod column_met;
+mod column_times;
+mod columns;
 mod damage;
 mod direct;
 mod doors;
@@ -49,7 +54,7 @@ const SEED: u64 = 1;
 const TIMED: usize = 100_000;
 
 /// `compare` is the gate's run. `compare rounds SEED COUNT` repeats all but the root and the times,
-/// `compare rules SEED COUNT` the rules alone, `compare roots` takes the root of every bit pattern, and
+/// `compare rules SEED COUNT` the rules alone, `compare columns SEED COUNT` the columns alone, `compare roots` takes the root of every bit pattern, and
 /// `compare times SEED` prints the times alone.
 fn main() -> ExitCode {
     // The compiler is to know nothing of either side when it makes the calls.
@@ -65,7 +70,10 @@ fn main() -> ExitCode {
         ["times", seed] => times(&mut Draw::new(number(seed))),
         ["rounds", seed, count] => rounds(seed, count, |draw| round(sides, draw)),
         ["rules", seed, count] => rounds(seed, count, rules::compare),
-        _ => panic!("compare [roots | times SEED | rounds SEED COUNT | rules SEED COUNT]"),
+        ["columns", seed, count] => rounds(seed, count, columns::compare),
+        _ => panic!(
+            "compare [roots | times SEED | rounds SEED COUNT | rules SEED COUNT | columns SEED COUNT]"
+        ),
     };
     if differences == 0 {
         ExitCode::SUCCESS
@@ -90,6 +98,7 @@ fn times(draw: &mut Draw) -> usize {
     direct::times(draw);
     gradients::times(draw);
     step_times::times(draw);
+    column_times::times(draw);
     0
 }
 
@@ -116,6 +125,7 @@ fn calls(draw: &mut Draw) -> usize {
         + rules::compare(draw)
         + marks::compare(draw)
         + wrapper::compare(draw)
+        + columns::compare(draw)
 }
 
 /// Beside the processor's own instruction: what the Rust calls.

@@ -17,7 +17,7 @@ pub struct Said {
     gain: u32,
 }
 
-fn seven(counts: &mut [u32]) -> &mut [u32; 7] {
+pub fn seven(counts: &mut [u32]) -> &mut [u32; 7] {
     counts.try_into().expect("a tally has seven counts")
 }
 
@@ -79,12 +79,10 @@ pub fn made(call: &mut Call, pinned: &mut [u8]) -> Said {
     }
 }
 
-/// A response's marks, as bytes.
+/// A call's marks, as bytes.
 pub fn marks(call: &Call) -> Vec<u8> {
-    match call.operation {
-        ResponseInto => bytes(&call.lists[10]),
-        _ => Vec::new(),
-    }
+    let at = call.operation.pinned_at();
+    at.map_or(Vec::new(), |at| bytes(&call.lists[at]))
 }
 
 /// What the call answers beside its lists. Its marks must stay.

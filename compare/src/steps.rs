@@ -63,7 +63,7 @@ fn judged(
 }
 
 /// The size that may be factored, at its limits.
-fn damage_route(draw: &mut Draw, call: &mut Call) {
+pub fn damage_route(draw: &mut Draw, call: &mut Call) {
     let dofs = call.n().saturating_mul(2);
     let some = [0, dofs.saturating_sub(1), dofs, usize::MAX];
     if let Some(at) = call.operation.dense_at() {

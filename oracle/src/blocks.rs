@@ -4,7 +4,7 @@
 use crate::call::{building_needs, Call, Left, Operation};
 use crate::math::{Matrix, Real, Vector};
 use crate::soft_fem::soft_fem_sparse::BlockMatrix;
-use crate::{direct, gradient, plan, step};
+use crate::{columns, direct, gradient, plan, step};
 
 /// The Rust's own matrix, for calls without a line.
 pub struct Blocks(pub(crate) BlockMatrix);
@@ -135,6 +135,10 @@ pub fn left(call: &Call) -> Left {
         Operation::FactorizeStepMatrix => step::marked(call, matrix(call, &call.lists[3])),
         Operation::SolveStep => step::solved(call, matrix(call, &call.lists[3])),
         Operation::ResponseInto => step::responded(call, matrix(call, &call.lists[3])),
+        Operation::ComputeColumns => columns::computed(call, matrix(call, &call.lists[3])),
+        Operation::ClearColumns | Operation::LoadParticle => columns::numbered(call),
+        Operation::ResponseFromColumns => columns::combined(call),
+        Operation::ParticleBlockFromColumns => columns::block(call),
     }
 }
 

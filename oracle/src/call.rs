@@ -25,6 +25,11 @@ pub enum Operation {
     FactorizeStepMatrix,
     SolveStep,
     ResponseInto,
+    ClearColumns,
+    LoadParticle,
+    ComputeColumns,
+    ResponseFromColumns,
+    ParticleBlockFromColumns,
 }
 
 use Items::{Float, Whole};
@@ -44,6 +49,15 @@ pub const MATRIX: [Operation; 7] = [
 /// The step's.
 pub const STEP: [Operation; 3] = [FactorizeStepMatrix, SolveStep, ResponseInto];
 
+/// The columns'.
+pub const COLUMNS: [Operation; 5] = [
+    ClearColumns,
+    LoadParticle,
+    ComputeColumns,
+    ResponseFromColumns,
+    ParticleBlockFromColumns,
+];
+
 impl Operation {
     pub fn all() -> impl Iterator<Item = Self> {
         let solvers = [
@@ -54,7 +68,8 @@ impl Operation {
             UpdatePreconditioner,
             ConjugateGradient,
         ];
-        MATRIX.into_iter().chain(solvers).chain(STEP)
+        let steps = STEP.into_iter().chain(COLUMNS);
+        MATRIX.into_iter().chain(solvers).chain(steps)
     }
 
     pub fn word(self) -> &'static str {
@@ -75,20 +90,30 @@ impl Operation {
             FactorizeStepMatrix => "factorize_step_matrix",
             SolveStep => "solve_step",
             ResponseInto => "response_into",
+            ClearColumns => "clear_columns",
+            LoadParticle => "load_particle",
+            ComputeColumns => "compute_columns",
+            ResponseFromColumns => "response_from_columns",
+            ParticleBlockFromColumns => "particle_block_from_columns",
         }
     }
 
     /// How many plain numbers it takes: n, then the pair count, or the row and its column, or the
     /// iteration limit and the tolerance's bits. A step call has `max_dense_dofs` behind these, the mark
-    /// as 0 or 1 and, for a response, the number of entries.
+    /// as 0 or 1 and, for a response, the number of entries; for columns, how many particles are loaded.
+    /// The columns' other calls have n, that number, and a particle or the number of entries.
     pub fn numbers(self) -> usize {
         match self {
             ClearValues | Mul | MakeDirichletMarked | Plan | Factorize | Solve
-            | UpdatePreconditioner => 1,
+            | UpdatePreconditioner | ClearColumns => 1,
             FromPairs | PatternFromPairs | DiagonalIndex | MakeDirichlet | FactorizeStepMatrix => 2,
-            BlockIndex | ConjugateGradient => 3,
+            BlockIndex
+            | ConjugateGradient
+            | LoadParticle
+            | ResponseFromColumns
+            | ParticleBlockFromColumns => 3,
             SolveStep => 5,
-            ResponseInto => 6,
+            ResponseInto | ComputeColumns => 6,
         }
     }
 
@@ -96,14 +121,49 @@ impl Operation {
     pub fn dense_at(self) -> Option<usize> {
         match self {
             FactorizeStepMatrix => Some(1),
-            SolveStep | ResponseInto => Some(3),
+            SolveStep | ResponseInto | ComputeColumns => Some(3),
+            _ => None,
+        }
+    }
+
+    /// Which of its numbers says how many particles are loaded.
+    pub fn loaded_at(self) -> Option<usize> {
+        match self {
+            ComputeColumns => Some(5),
+            LoadParticle | ResponseFromColumns | ParticleBlockFromColumns => Some(1),
+            _ => None,
+        }
+    }
+
+    /// Which of its lists are the marks of pinned particles, if it reads them one by one.
+    pub fn pinned_at(self) -> Option<usize> {
+        match self {
+            ResponseInto | ComputeColumns => Some(10),
+            LoadParticle | ResponseFromColumns | ParticleBlockFromColumns => Some(0),
+            _ => None,
+        }
+    }
+
+    /// Which of its lists is the table of columns. The columns stand behind it.
+    pub fn table_at(self) -> Option<usize> {
+        match self {
+            ClearColumns => Some(0),
+            _ => self.loaded_at().and(self.pinned_at()).map(|at| at + 1),
+        }
+    }
+
+    /// Where a constraint's entries are: the number, and the lists of particles and of gradients.
+    pub fn entries_at(self) -> Option<[usize; 3]> {
+        match self {
+            ResponseInto => Some([5, 11, 12]),
+            ResponseFromColumns => Some([2, 3, 4]),
             _ => None,
         }
     }
 
     /// Whether its last list is the tally's seven counts, lent without a length.
     pub fn counts(self) -> bool {
-        matches!(self, SolveStep | ResponseInto)
+        matches!(self, SolveStep | ResponseInto | ComputeColumns)
     }
 
     /// Its lists, in the order of its parameters: the pairs if it builds, the pattern's three if it
@@ -143,6 +203,16 @@ impl Operation {
                 Whole, Whole, Whole, Float, Whole, Whole, Whole, Whole, Float, Float, Whole, Whole,
                 Float, Float, Float, Float, Float, Float, Float, Float, Whole,
             ],
+            ClearColumns => &[Whole],
+            LoadParticle => &[Whole, Whole],
+            // As a response up to the pinned marks, the table and the columns, the right-hand side, the scratch and four to work in, and the counts.
+            ComputeColumns => &[
+                Whole, Whole, Whole, Float, Whole, Whole, Whole, Whole, Float, Float, Whole, Whole,
+                Float, Float, Float, Float, Float, Float, Float, Whole,
+            ],
+            // Pinned marks, the table, the columns, the entries' particles and gradients, and out.
+            ResponseFromColumns => &[Whole, Whole, Float, Whole, Float, Float],
+            ParticleBlockFromColumns => &[Whole, Whole, Float, Float],
         }
     }
 
@@ -158,16 +228,25 @@ impl Operation {
             ConjugateGradient => 6,
             SolveStep => 11,
             ResponseInto => 13,
+            ClearColumns => 0,
+            LoadParticle => 1,
+            ComputeColumns => 12,
+            ResponseFromColumns => 5,
+            ParticleBlockFromColumns => 3,
         }
     }
 
     /// What an answer's lists hold: those that the call may change. Behind a solve's stand its
-    /// outcome's number and count, and the outcome's floats, a response's gain first; none of either if
-    /// it was refused.
+    /// outcome's number and count, and the outcome's floats, a response's gain first; behind computed columns how
+    /// many solves ended in each way; behind a combination or a block its number, and the gain or the
+    /// block. None of these if it was refused.
     pub fn answered(self) -> Vec<Items> {
         let mut kinds = self.lists()[self.first_changed()..].to_vec();
-        if self.iterates() {
-            kinds.extend([Whole, Float]);
+        match self {
+            ComputeColumns => kinds.push(Whole),
+            ResponseFromColumns | ParticleBlockFromColumns => kinds.extend([Whole, Float]),
+            _ if self.iterates() => kinds.extend([Whole, Float]),
+            _ => {}
         }
         kinds
     }
@@ -188,13 +267,20 @@ impl Operation {
 
     /// Whether its first three lists are a pattern's.
     pub fn takes_pattern(self) -> bool {
-        !self.builds() && self != Solve
+        let without = [
+            Solve,
+            ClearColumns,
+            LoadParticle,
+            ResponseFromColumns,
+            ParticleBlockFromColumns,
+        ];
+        !self.builds() && !without.contains(&self)
     }
 
     /// Where the plan's four lists begin, if it is handed a plan.
     pub fn plan_at(self) -> Option<usize> {
         match self {
-            Factorize | FactorizeStepMatrix | SolveStep | ResponseInto => Some(4),
+            Factorize | FactorizeStepMatrix | SolveStep | ResponseInto | ComputeColumns => Some(4),
             Solve => Some(0),
             _ => None,
         }
@@ -246,7 +332,14 @@ impl Call {
                 let (m, factor) = (2 * n, self.lists[3][2 * n] as usize);
                 vec![n, n, m, m + 1, factor, m, m, m]
             }
-            FactorizeStepMatrix | SolveStep | ResponseInto => self.step_needs(),
+            FactorizeStepMatrix | SolveStep | ResponseInto | ComputeColumns => self.step_needs(),
+            ClearColumns => vec![n],
+            LoadParticle => vec![n, n],
+            ResponseFromColumns => {
+                let entries = self.numbers[2];
+                vec![n, n, self.columns_need(), entries, 2 * entries, 2 * n]
+            }
+            ParticleBlockFromColumns => vec![n, n, self.columns_need(), 4 * n],
             MakeDirichletMarked => {
                 let blocks = self.lists[0][n] as usize;
                 vec![n + 1, blocks, n, n, 4 * blocks]
@@ -271,6 +364,17 @@ impl Call {
         at.is_some_and(|at| 2 * self.n() <= self.numbers[at])
     }
 
+    /// How many particles are loaded, where that is handed in.
+    pub fn loaded(&self) -> usize {
+        let at = self.operation.loaded_at();
+        at.map_or(0, |at| self.numbers[at])
+    }
+
+    /// Two vectors to a particle for each loaded one.
+    fn columns_need(&self) -> usize {
+        (4 * self.n()).saturating_mul(self.loaded())
+    }
+
     fn step_needs(&self) -> Vec<usize> {
         let n = self.n();
         let blocks = self.lists[0][n] as usize;
@@ -287,7 +391,11 @@ impl Call {
             let entries = self.numbers[5];
             needs.extend([n, entries, 2 * entries]);
         }
-        let scratch = needs.len() + 2;
+        let mut scratch = needs.len() + 2;
+        if self.operation == ComputeColumns {
+            needs.extend([n, n, self.columns_need()]);
+            scratch = needs.len() + 1;
+        }
         needs.resize(self.operation.lists().len() - 1, 2 * n);
         if !self.dense() {
             needs[scratch] = 0;

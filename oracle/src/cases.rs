@@ -1,13 +1,13 @@
 //! The stored lists of cases, as functions of a seed.
 
-use crate::call::{Operation, MATRIX, STEP};
+use crate::call::{Operation, COLUMNS, MATRIX, STEP};
 use crate::draw::{Draw, SPECIAL};
 use crate::graphs::{self, Graph};
 use crate::plan::ENVELOPE;
 use crate::shapes::{self, SIZED};
 use crate::systems::{self, System, FACTORS, MATRICES, PLANS};
 use crate::text::case_line;
-use crate::{calls, limits, moves, planes, roots, solves, steps};
+use crate::{calls, limits, moves, planes, roots, solves, steps, tables};
 
 const EACH: usize = 400;
 
@@ -28,6 +28,10 @@ const ITERATED: [(usize, usize); 2] = [(160, 4), (16, 20)];
 
 /// The same of each of the step's calls.
 const STEPPED: (usize, usize) = (90, 4);
+
+/// The same of each of the columns' calls, and of sequences of them.
+const COLUMNED: (usize, usize) = (40, 4);
+const SEQUENCES: (usize, usize) = (12, 3);
 
 pub fn plane(seed: u64) -> Vec<String> {
     let draw = &mut Draw::new(seed);
@@ -157,6 +161,29 @@ pub fn step(seed: u64) -> Vec<String> {
         }
         let system = System::new(draw, &graphs::chain(24), 0);
         lines.push(steps::drawn(draw, operation, 0, system).line());
+    }
+    lines
+}
+
+/// The columns' calls, on both routes, and sequences of them.
+pub fn columns(seed: u64) -> Vec<String> {
+    let draw = &mut Draw::new(seed);
+    let mut lines = Vec::new();
+    let (turns, most) = COLUMNED;
+    for operation in COLUMNS {
+        for turn in 0..turns {
+            let system = System::drawn(draw, most);
+            lines.push(tables::call(draw, operation, turn, system).line());
+        }
+    }
+    let (turns, most) = SEQUENCES;
+    for turn in 0..turns {
+        let system = System::drawn(draw, most);
+        tables::sequence(draw, turn, system, |call| {
+            let accepted = tables::refused(call) == 0;
+            lines.extend(accepted.then(|| call.line()));
+            tables::left(call)
+        });
     }
     lines
 }

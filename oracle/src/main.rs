@@ -1,5 +1,5 @@
 //! `oracle answer`: case lines in, answer lines out. `oracle cases LIST SEED`: a stored list of cases,
-//! `plane`, `pattern`, `plan`, `direct`, `gradient` or `step`.
+//! `plane`, `pattern`, `plan`, `direct`, `gradient`, `step` or `columns`.
 
 use std::io::{self, BufWriter, Write};
 use std::process::ExitCode;
@@ -15,8 +15,9 @@ fn main() -> ExitCode {
         ["cases", "direct", seed] => write_cases(oracle::cases::direct, seed),
         ["cases", "gradient", seed] => write_cases(oracle::cases::gradient, seed),
         ["cases", "step", seed] => write_cases(oracle::cases::step, seed),
+        ["cases", "columns", seed] => write_cases(oracle::cases::columns, seed),
         _ => Err(
-            "usage: oracle answer | oracle cases plane|pattern|plan|direct|gradient|step SEED"
+            "usage: oracle answer | oracle cases plane|pattern|plan|direct|gradient|step|columns SEED"
                 .into(),
         ),
     };

@@ -22,24 +22,20 @@ pub const NOTHING: u32 = 6;
 
 /// The Rust's own system and settings, for calls without a line.
 pub struct Step {
-    system: SoftFemSystem,
-    settings: SoftFemParameters,
+    pub(crate) system: SoftFemSystem,
+    pub(crate) settings: SoftFemParameters,
 }
 
 impl Step {
     /// Factor and preconditioner are as they stand in the call, and so is the mark if the plan counts.
     pub fn new(call: &Call, matrix: Blocks) -> Self {
         let (n, dense, iterates) = (call.n(), call.dense(), call.operation.iterates());
-        let pinned = match call.operation {
-            Operation::ResponseInto => call.lists[10][..n].iter().map(|&mark| mark != 0).collect(),
-            _ => Vec::new(),
-        };
         let Gradient(step_cg) = Gradient::from_list(n, &call.lists[9]);
         let direct = dense.then(|| Direct::from_lists(n, &call.lists[4..8], &call.lists[8]).0);
         Self {
             system: SoftFemSystem {
                 mass: vec![0.0; n],
-                pinned,
+                pinned: pinned(call),
                 matrix: matrix.0.clone(),
                 step_matrix: matrix.0,
                 step_cg,
@@ -69,11 +65,21 @@ impl Step {
     }
 }
 
-/// A response's entries.
+/// Which particles are pinned, if the call has marks.
+pub(crate) fn pinned(call: &Call) -> Vec<bool> {
+    let marks = |at: usize| call.lists[at][..call.n()].iter();
+    let at = call.operation.pinned_at();
+    at.map_or(Vec::new(), |at| marks(at).map(|&mark| mark != 0).collect())
+}
+
+/// The entries of a response or of a combination.
 pub fn entries(call: &Call) -> Vec<(u32, Vector)> {
-    let count = call.numbers[5];
-    let gradients = vectors(&call.lists[12], count);
-    let particles = call.lists[11][..count].iter().copied();
+    let Some([count, particles, gradients]) = call.operation.entries_at() else {
+        return Vec::new();
+    };
+    let count = call.numbers[count];
+    let gradients = vectors(&call.lists[gradients], count);
+    let particles = call.lists[particles][..count].iter().copied();
     particles.zip(gradients).collect()
 }
 
@@ -87,12 +93,13 @@ pub fn counted(counts: &[u32], kind: usize) -> Vec<u32> {
 }
 
 /// 7, if the plan counts and is past the limit: a refused call, and one more of these.
-fn past_limit(call: &Call) -> Option<Left> {
+pub(crate) fn past_limit(call: &Call) -> Option<Left> {
     let mut left = call.dense().then(|| too_long(call, &call.lists[4..8]))??;
     if call.operation.counts() {
         let counts = left.lists.pop().expect("the counts are a list");
         left.lists.push(counted(&counts, REFUSED));
-        left.lists.extend([Vec::new(), Vec::new()]);
+        let told = call.operation.answered().len();
+        left.lists.resize(told, Vec::new());
     }
     Some(left)
 }
@@ -141,7 +148,7 @@ pub fn iteration(call: &Call, b: Vec<u32>) -> Call {
 }
 
 /// None on the direct route.
-fn read(call: &Call, b: Vec<u32>) -> Option<Reading> {
+pub(crate) fn read(call: &Call, b: Vec<u32>) -> Option<Reading> {
     let iterates = !call.dense() || call.numbers[4] == 0;
     iterates.then(|| reading::of(&iteration(call, b)))
 }

@@ -6,9 +6,10 @@ use crate::calls::lengthen;
 use crate::draw::Draw;
 use crate::solves::{self, bits};
 use crate::systems::{dominant, stiff, System, FACTORS, MATRICES};
+use crate::tables;
 
 /// The most entries of a response.
-const ENTRIES: usize = 16;
+pub(crate) const ENTRIES: usize = 16;
 
 fn below(draw: &mut Draw, limit: usize) -> usize {
     draw.below(limit as u32) as usize
@@ -170,6 +171,8 @@ struct Given {
     vectors: Vec<f32>,
     pinned: Vec<u32>,
     particles: Vec<u32>,
+    /// The numbers of the loaded particles' columns, and how many are loaded.
+    table: (Vec<u32>, usize),
 }
 
 /// To make this call over the system, with values of this turn's kind where they mean nothing.
@@ -180,6 +183,7 @@ pub fn drawn(draw: &mut Draw, operation: Operation, turn: usize, mut system: Sys
     let entries = below(draw, if n == 0 { 1 } else { ENTRIES + 1 });
     let length = match operation {
         Operation::ResponseInto => 2 * entries,
+        Operation::ComputeColumns => 0,
         _ => 2 * n,
     };
     let vectors = match draw.below(10) {
@@ -195,7 +199,11 @@ pub fn drawn(draw: &mut Draw, operation: Operation, turn: usize, mut system: Sys
         vectors,
         pinned: pinned(draw, n),
         particles: particles(draw, n, entries),
+        table: Default::default(),
     };
+    if operation == Operation::ComputeColumns {
+        given.table = tables::drawn(draw, &given.pinned);
+    }
     if operation == Operation::ResponseInto && draw.below(5) == 0 {
         oppose(draw, &mut given.particles, &mut given.vectors);
     }
@@ -204,7 +212,7 @@ pub fn drawn(draw: &mut Draw, operation: Operation, turn: usize, mut system: Sys
     call
 }
 
-/// By a whole factor of springs, with four entries and nothing pinned, in lists that are no longer than they must be.
+/// By a whole factor of springs, with four entries or four loaded particles and nothing pinned, in lists that are no longer than they must be.
 pub fn direct(draw: &mut Draw, operation: Operation, mut system: System) -> Call {
     stiff(draw, &mut system);
     let n = system.n;
@@ -216,10 +224,12 @@ pub fn direct(draw: &mut Draw, operation: Operation, mut system: System) -> Call
         preconditioner: solves::updated(&system.matrix(), &system.blocks),
         vectors: match operation {
             Operation::ResponseInto => solves::values_of(draw, 0, 8),
+            Operation::ComputeColumns => Vec::new(),
             _ => solves::values_of(draw, 0, 2 * n),
         },
         pinned: vec![0; n],
         particles: (0..4).map(|_| draw.below(n as u32)).collect(),
+        table: tables::screws(n),
     };
     let mut call = assembled(operation, system, given);
     let needs = call.needs();
@@ -245,8 +255,12 @@ fn assembled(operation: Operation, system: System, given: Given) -> Call {
     if operation == Operation::ResponseInto {
         numbers.push(given.particles.len());
         lists.extend([given.pinned, given.particles]);
-    }
-    if operation.iterates() {
+        lists.push(bits(&given.vectors));
+    } else if operation == Operation::ComputeColumns {
+        let (table, loaded) = given.table;
+        numbers.push(loaded);
+        lists.extend([given.pinned, table]);
+    } else if operation.iterates() {
         lists.push(bits(&given.vectors));
     }
     lists.resize(operation.lists().len(), Vec::new());
@@ -254,6 +268,13 @@ fn assembled(operation: Operation, system: System, given: Given) -> Call {
         operation,
         numbers,
         lists,
+    }
+}
+
+/// The rest of a list of marks is bytes too.
+pub(crate) fn marks_as_bytes(call: &mut Call) {
+    if let Some(at) = call.operation.pinned_at() {
+        call.lists[at].iter_mut().for_each(|mark| *mark &= 0xff);
     }
 }
 
@@ -268,7 +289,5 @@ fn close(draw: &mut Draw, call: &mut Call, turn: usize) {
         let last = call.lists.len() - 1;
         call.lists[last] = counts(draw);
     }
-    if call.operation == Operation::ResponseInto {
-        call.lists[10].iter_mut().for_each(|mark| *mark &= 0xff);
-    }
+    marks_as_bytes(call);
 }

@@ -31,6 +31,11 @@ dropped! {
     marked: "step.factorize_step_matrix(&matrix, &params).unwrap()";
     stepped: "step.solve_step(&b, &mut x, &params, &mut tally).unwrap()";
     responded: "step.response_into(&[(0, [1.0, 0.0])], &mut x, &params, &mut tally).unwrap()";
+    loaded: "step.load_particle(0)";
+    cleared: "step.clear_columns()";
+    computed: "step.compute_columns(&params, &mut tally).unwrap()";
+    combined: "step.response_from_columns(&[(0, [1.0, 0.0])], &mut x).unwrap()";
+    block: "step.particle_block_from_columns(0, &mut [[0.0; 2]; 2]).unwrap()";
     refused: "direct.solve(&b, &mut x)";
     error: "direct.solve(&b[1..], &mut x).unwrap_err()";
     solved: "Stepped::Direct.solved()";

@@ -9,7 +9,7 @@ use std::fmt;
 pub enum Error {
     /// The proved call refused.
     Refused(Refusal),
-    /// A list is for another number of particles.
+    /// A list is for another number of particles. Of an `out of both columns` the vectors are counted, two for each particle.
     Length {
         list: &'static str,
         needed: usize,
@@ -25,6 +25,8 @@ pub enum Error {
     NoPreconditioner,
     /// A step before its first matrix.
     NoMatrix,
+    /// Loaded particles without columns of the step's matrix: one was loaded, or a matrix factored, since they were last computed.
+    NotComputed,
     /// The pattern stores no such block.
     NoBlock { row: u32, col: u32 },
 }
@@ -56,21 +58,27 @@ pub(crate) fn exact(list: &'static str, needed: usize, given: usize) -> Result<(
 fn remedy(refusal: Refusal) -> &'static str {
     match refusal {
         Refusal::TooManyParticles => "make the model smaller",
-        Refusal::TooManyEntries => "hand over fewer",
+        Refusal::TooManyEntries => "hand over or load fewer",
         Refusal::ShortBuffer => "lend a longer one",
         Refusal::OutOfRange => "number the particles from 0 to n - 1",
         Refusal::BadPattern => "build it by from_pairs",
-        Refusal::BadPlan => "plan this matrix anew, by SkylineCholesky::new or a new Step",
+        Refusal::BadPlan => {
+            "plan this matrix anew, by SkylineCholesky::new or a new Step; or clear the columns and load anew"
+        }
         Refusal::LongEnvelope => "iterate instead, by ConjugateGradient or a lower max_dense_dofs",
         Refusal::BadSettings => "change the settings",
         Refusal::BadText => "change the text",
     }
 }
 
+/// The list of a particle's block: its length is told in vectors.
+pub(crate) const BOTH_COLUMNS: &str = "out of both columns";
+
 /// What to do about a list for another number of particles, after the length that was given.
 fn exchange(f: &mut fmt::Formatter<'_>, list: &str, needed: usize) -> fmt::Result {
     write!(f, " where {needed} are needed; ")?;
     match list {
+        BOTH_COLUMNS => f.write_str("hand over two vectors for each particle"),
         "preconditioner" => f.write_str("call update_preconditioner with this matrix"),
         "plan" => f.write_str("plan this matrix by SkylineCholesky::new"),
         _ => write!(f, "hand over one for exactly {needed}"),
@@ -81,6 +89,8 @@ const NO_PLAN: &str = "there is no plan; plan the matrix by SkylineCholesky::new
     or factor the step's matrix by these settings";
 const NO_PRECONDITIONER: &str = "there is no preconditioner yet; call update_preconditioner, \
     or factor the step's matrix by these settings";
+const NOT_COMPUTED: &str = "the loaded particles have no columns of the step's matrix; \
+    call compute_columns";
 
 impl fmt::Display for Error {
     fn fmt(&self, f: &mut fmt::Formatter<'_>) -> fmt::Result {
@@ -94,7 +104,10 @@ impl fmt::Display for Error {
                 needed,
                 given,
             } => {
-                write!(f, "`{list}` is for {given} particles")?;
+                match list {
+                    BOTH_COLUMNS => write!(f, "`out` has {given} vectors")?,
+                    _ => write!(f, "`{list}` is for {given} particles")?,
+                }
                 exchange(f, list, needed)
             }
             Self::NoPlan => f.write_str(NO_PLAN),
@@ -105,6 +118,7 @@ impl fmt::Display for Error {
             }
             Self::NoPreconditioner => f.write_str(NO_PRECONDITIONER),
             Self::NoMatrix => f.write_str("the step has no matrix; call factorize_step_matrix"),
+            Self::NotComputed => f.write_str(NOT_COMPUTED),
             Self::NoBlock { row, col } => {
                 write!(f, "the pattern has no block ({row}, {col}); ")?;
                 f.write_str("name the pair to from_pairs")

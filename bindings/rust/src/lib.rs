@@ -45,8 +45,37 @@
 //! assert_eq!((tally.direct, tally.refused, tally.total()), (1, 1, 2));
 //! # Ok::<(), Error>(())
 //! ```
+//!
+//! Constraints at the same particles can share their solves. A loaded particle's two columns, its answers along either axis, are solved
+//! once, and combined for each constraint:
+//!
+//! ```
+//! use bracket::{BlockMatrix, Combined, Error, Marked, ParticleBlock, SoftFemParameters, Step, Tally};
+//!
+//! let mut matrix = BlockMatrix::from_pairs(1, &[])?;
+//! *matrix.block_mut(0, 0)? = [[1.0, 1.0], [1.0, 2.0]];
+//! let params = SoftFemParameters { max_dense_dofs: 512, linear_tolerance: 1.0e-5, max_linear_iterations: 200 };
+//! let (mut step, mut tally) = (Step::new(&[false]), Tally::default());
+//! assert_eq!(step.factorize_step_matrix(&matrix, &params)?, Marked::Direct);
+//!
+//! step.load_particle(0)?;
+//! let mut out = [[0.0; 2]];
+//! assert_eq!(step.response_from_columns(&[(0, [3.0, 4.0])], &mut out), Err(Error::NotComputed));
+//! let computed = step.compute_columns(&params, &mut tally)?;
+//! assert!(computed.solved(), "{computed}");
+//! assert_eq!(step.response_from_columns(&[(0, [3.0, 4.0])], &mut out)?, Combined::Gain(10.0));
+//! assert_eq!(out, [[2.0, 1.0]]);
+//!
+//! let mut both = [[0.0; 2]; 2];
+//! let block = step.particle_block_from_columns(0, &mut both)?;
+//! assert_eq!(block, ParticleBlock::Block([[2.0, -1.0], [-1.0, 1.0]]));
+//! assert_eq!((tally.direct, tally.total()), (2, 2));
+//! # Ok::<(), Error>(())
+//! ```
 #![deny(unsafe_code)]
 
+mod columns;
+mod combined;
 #[cfg(doctest)]
 mod dropped;
 mod error;
@@ -64,6 +93,7 @@ mod stepped;
 mod sys;
 mod tally;
 
+pub use combined::{Combined, Computed, ParticleBlock};
 pub use error::Error;
 pub use gradient::ConjugateGradient;
 pub use matrix::{BlockMatrix, ABSENT};

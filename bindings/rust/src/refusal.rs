@@ -50,11 +50,13 @@ impl fmt::Display for Refusal {
     fn fmt(&self, f: &mut fmt::Formatter<'_>) -> fmt::Result {
         f.write_str(match self {
             Self::TooManyParticles => "more than 1,024 particles",
-            Self::TooManyEntries => "more than 4,096 pairs or 16 response entries",
+            Self::TooManyEntries => "more than 4,096 pairs or 16 response entries, or one more loaded particle than 16",
             Self::ShortBuffer => "a lent buffer is shorter than the call needs",
             Self::OutOfRange => "a pair of different numbers has one at n or above; or a row or particle asked for is at n or above",
             Self::BadPattern => "a pattern isn't well formed",
-            Self::BadPlan => "a plan doesn't fit its pattern",
+            Self::BadPlan => {
+                "a plan doesn't fit its pattern; or a table of columns doesn't number unpinned particles 0, 1, 2 up to its count, at most 16, each once"
+            }
             Self::LongEnvelope => "the envelope needs more than 16,384 entries",
             Self::BadSettings => "the tolerance isn't finite and at least zero, or more than 4,096 iterations",
             Self::BadText => "program text isn't as described",

@@ -1,5 +1,5 @@
-//! Refused calls that no caller can bring about, since a matrix's lists are private: its pattern is spoiled here, or a value cut off.
-//! They too leave the object and every list as they were.
+//! Refused calls that no caller can bring about, since a matrix's lists and a step's are private: its pattern or its table of columns is
+//! spoiled here, or a value cut off. They too leave the object and every list as they were.
 
 use crate::{
     BlockMatrix, ConjugateGradient, Error, Refusal, SkylineCholesky, SoftFemParameters, Step,
@@ -128,4 +128,75 @@ fn a_step_matrix() {
             assert!(x.as_flattened().iter().all(|x| (x - 1.0).abs() < 1.0e-6));
         }
     }
+}
+
+/// A step of two particles, both loaded, with their columns; then spoiled.
+fn columns(spoil: impl FnOnce(&mut Step)) -> Step {
+    let mut step = Step::new(&[false; 2]);
+    assert!(step.factorize_step_matrix(&sound(), &PARAMS).is_ok());
+    for particle in 0..2 {
+        step.load_particle(particle).unwrap();
+    }
+    let computed = step.compute_columns(&PARAMS, &mut Tally::default());
+    assert!(computed.unwrap().solved());
+    spoil(&mut step);
+    step
+}
+
+const BAD_PLAN: Error = Error::Refused(Refusal::BadPlan);
+
+fn computing(step: &mut Step, error: Error) {
+    let mut tally = Tally::default();
+    refused(step, error, |step| {
+        step.compute_columns(&PARAMS, &mut tally)
+    });
+    assert_eq!((tally.refused, tally.total()), (1, 1));
+}
+
+fn combining(step: &mut Step, error: Error) {
+    let mut out = [[7.0, 8.0]; 4];
+    refused(step, error, |step| {
+        step.response_from_columns(&[(0, [1.0, 0.0])], &mut out[..2])
+    });
+    refused(step, error, |step| {
+        step.particle_block_from_columns(0, &mut out)
+    });
+    assert_eq!(out, [[7.0, 8.0]; 4]);
+}
+
+#[test]
+fn a_table_of_columns() {
+    let twice = |step: &mut Step| step.column_of[0] = 1;
+    let above = |step: &mut Step| step.column_of[1] = 2;
+    let pinned_later = |step: &mut Step| step.pinned[0] = 1;
+    for mut step in [columns(twice), columns(above), columns(pinned_later)] {
+        refused(&mut step, BAD_PLAN, |step| step.load_particle(0));
+        computing(&mut step, BAD_PLAN);
+        combining(&mut step, BAD_PLAN);
+        // Clearing asks nothing of a table, and makes a new one.
+        assert_eq!(step.clear_columns(), Ok(()));
+        assert_eq!(step.load_particle(1), Ok(()));
+        computed_anew(&mut step);
+    }
+    let mut short = columns(|step| step.column_of.truncate(1));
+    refused(&mut short, SHORT_BUFFER, |step| step.load_particle(0));
+    refused(&mut short, SHORT_BUFFER, Step::clear_columns);
+    computing(&mut short, SHORT_BUFFER);
+    combining(&mut short, SHORT_BUFFER);
+}
+
+fn computed_anew(step: &mut Step) {
+    let computed = step.compute_columns(&PARAMS, &mut Tally::default());
+    assert!(computed.is_ok_and(|computed| computed.total() == 2));
+}
+
+#[test]
+fn columns_or_their_matrix() {
+    combining(&mut columns(|step| step.columns.truncate(7)), SHORT_BUFFER);
+    let mut elsewhere = columns(|step| step.step_matrix.diagonal[0] = 1);
+    computing(&mut elsewhere, BAD_PATTERN);
+    // One particle less to compute: the columns before stay, whose room is another.
+    elsewhere.column_of[1] = u32::MAX;
+    elsewhere.num_columns = 1;
+    computing(&mut elsewhere, BAD_PATTERN);
 }

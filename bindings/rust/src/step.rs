@@ -1,11 +1,12 @@
 //! The step: its matrix, and the solves that go through it.
 
+use crate::columns::UNLOADED;
 use crate::error::exact;
 use crate::matrix::bytes;
 use crate::outcome::Told;
 use crate::refusal::accepted;
 use crate::{
-    sys, BlockMatrix, ConjugateGradient, Error, Marked, Matrix, Refusal, Responded,
+    sys, BlockMatrix, Computed, ConjugateGradient, Error, Marked, Matrix, Refusal, Responded,
     SkylineCholesky, Stepped, Tally, Vector,
 };
 
@@ -22,14 +23,21 @@ pub struct SoftFemParameters {
 #[derive(Clone, Debug, Default)]
 pub struct Step {
     /// How the step's matrix was factored; none while there is no matrix.
-    marked: Option<Marked>,
-    step_matrix: BlockMatrix,
+    pub(crate) marked: Option<Marked>,
+    pub(crate) step_matrix: BlockMatrix,
     /// Without a plan until one is needed.
-    direct: SkylineCholesky,
-    step_cg: ConjugateGradient,
-    response_rhs: Vec<Vector>,
+    pub(crate) direct: SkylineCholesky,
+    pub(crate) step_cg: ConjugateGradient,
+    pub(crate) response_rhs: Vec<Vector>,
     /// A byte for each particle, zero if it's free.
-    pinned: Vec<u8>,
+    pub(crate) pinned: Vec<u8>,
+    /// The number of each particle's column.
+    pub(crate) column_of: Vec<u32>,
+    /// Two vectors for each particle and each loaded one, if they are computed.
+    pub(crate) columns: Vec<Vector>,
+    pub(crate) num_columns: usize,
+    /// How the columns' solves ended; none if a particle was loaded or a matrix factored since.
+    pub(crate) computed: Option<Computed>,
 }
 
 impl Step {
@@ -40,6 +48,7 @@ impl Step {
             step_cg: ConjugateGradient::with_room(pinned.len()),
             response_rhs: vec![Default::default(); pinned.len()],
             pinned: bytes(pinned),
+            column_of: vec![UNLOADED; pinned.len()],
             ..Self::default()
         }
     }
@@ -55,7 +64,8 @@ impl Step {
         self.marked
     }
 
-    /// Keeps `matrix` for the step and factors it if it's small enough. The plan is made at the first such call and kept.
+    /// Keeps `matrix` for the step and factors it if it's small enough. The plan is made at the first such call and kept. Columns of
+    /// the matrix before are to be computed anew; which particles are loaded stays.
     pub fn factorize_step_matrix(
         &mut self,
         matrix: &BlockMatrix,
@@ -75,12 +85,13 @@ impl Step {
         self.step_cg.preconditioned |= marked != Marked::Direct;
         self.step_matrix.clone_from(matrix);
         self.marked = Some(marked);
+        self.computed = None;
         Ok(marked)
     }
 
     /// Whether the step can be asked: it has a matrix, these lists are for its particles, and there is what these settings use.
     /// By other settings than the matrix was factored by, there may be no plan or no preconditioner.
-    fn asked(
+    pub(crate) fn asked(
         &self,
         lists: &[(&'static str, usize)],
         params: &SoftFemParameters,

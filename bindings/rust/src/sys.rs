@@ -145,4 +145,29 @@ calls! {
         counts: &mut [u32; 7],
         gain: &mut f32, how: &mut u32, count: &mut usize, residual_squared: &mut f32, denominator: &mut f32
     ) -> u8;
+
+    fn bracket_clear_columns(
+        n: usize, column_of: &mut [u32], loaded_after: &mut usize
+    ) -> u8;
+    fn bracket_load_particle(
+        n: usize, pinned: &[u8], loaded: usize, particle: usize, column_of: &mut [u32], loaded_after: &mut usize
+    ) -> u8;
+    fn bracket_compute_columns(
+        n: usize, row_offsets: &[u32], cols: &[u32], diagonal: &[u32], blocks: &[f32],
+        perm: &[u32], inv_perm: &[u32], first: &[u32], row_start: &[u32],
+        values: &[f32], factored: bool, preconditioner: &[f32],
+        tolerance: f32, max_iterations: usize, max_dense_dofs: usize,
+        pinned: &[u8], loaded: usize, column_of: &[u32],
+        columns: &mut [f32], rhs: &mut [f32], scratch: &mut [f32], residual: &mut [f32], direction: &mut [f32], a_direction: &mut [f32], z: &mut [f32],
+        counts: &mut [u32; 7], ended: &mut [u32; 6]
+    ) -> u8;
+    fn bracket_response_from_columns(
+        n: usize, pinned: &[u8], loaded: usize, column_of: &[u32], columns: &[f32],
+        entries: usize, particles: &[u32], gradients: &[f32],
+        out: &mut [f32], gain: &mut f32, how: &mut u32
+    ) -> u8;
+    fn bracket_particle_block_from_columns(
+        n: usize, pinned: &[u8], loaded: usize, column_of: &[u32], columns: &[f32],
+        particle: usize, out: &mut [f32], how: &mut u32, block: &mut [f32; 4]
+    ) -> u8;
 }

@@ -5,7 +5,7 @@ ghost use mathlib.Core.Path.{_≡_};
 ghost use Rattle.step_tally.specs.Count.{countedOf};
 ghost use Rattle.abi_step_answers.specs.Counts.{tallyOf, countsOf};
 
-fn record(c: [u32; 7]) -> Tally
+pub fn record(c: [u32; 7]) -> Tally
     ensures { λ r. ⌜ r ≡ tallyOf c ⌝ }
 {
     Tally {
@@ -19,7 +19,7 @@ fn record(c: [u32; 7]) -> Tally
     }
 }
 
-fn list(t: Tally) -> [u32; 7]
+pub fn list(t: Tally) -> [u32; 7]
     ensures { λ r. ⌜ r ≡ countsOf t ⌝ }
 {
     [

@@ -17,6 +17,10 @@ entries = 16
 abbrev pub iterations : ℕ
 iterations = 4096
 
+-- the particles whose columns are kept
+abbrev pub columns : ℕ
+columns = 16
+
 -- from this sum of its counts on a tally stays
 abbrev pub tally : ℕ
 tally = 4000000000
@@ -28,3 +32,7 @@ bytes = 65536
 -- `block_index`'s answer for a block that is not stored
 abbrev pub absent : ℕ
 absent = 4294967295
+
+-- what a table of columns has for a particle that isn't loaded
+abbrev pub unloaded : ℕ
+unloaded = 4294967295

@@ -6,7 +6,7 @@ use Prim.Native.Nat.{ℕ}
 abbrev pub tooManyParticles : ℕ
 tooManyParticles = 1
 
--- more than 4,096 pairs or 16 response entries
+-- more than 4,096 pairs or 16 response entries, or one more loaded particle than 16
 abbrev pub tooManyEntries : ℕ
 tooManyEntries = 2
 
@@ -22,7 +22,7 @@ outOfRange = 4
 abbrev pub badPattern : ℕ
 badPattern = 5
 
--- the plan does not fit
+-- the plan does not fit, or a table of columns is none
 abbrev pub badPlan : ℕ
 badPlan = 6
 

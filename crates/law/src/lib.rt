@@ -15,6 +15,9 @@ pub const ENTRIES: usize = 16;
 
 pub const ITERATIONS: usize = 4096;
 
+// The particles whose columns are kept.
+pub const COLUMNS: usize = 16;
+
 // From this sum of its counts on a tally stays.
 pub const TALLY: u64 = 4000000000;
 
@@ -23,6 +26,9 @@ pub const BYTES: usize = 65536;
 
 // The answer for a block that is not stored.
 pub const ABSENT: u32 = 4294967295;
+
+// What a table of columns has for a particle that isn't loaded.
+pub const UNLOADED: u32 = 4294967295;
 
 // A column, a row start or a place of a list as an index.
 pub fn wide(x: u32) -> usize

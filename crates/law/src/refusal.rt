@@ -3,7 +3,7 @@
 // more than 1,024 particles
 pub const TOO_MANY_PARTICLES: u8 = 1;
 
-// more than 4,096 pairs or 16 response entries
+// more than 4,096 pairs or 16 response entries, or one more loaded particle than 16
 pub const TOO_MANY_ENTRIES: u8 = 2;
 
 // a lent buffer is shorter than the call needs
@@ -15,7 +15,7 @@ pub const OUT_OF_RANGE: u8 = 4;
 // the pattern is not well formed
 pub const BAD_PATTERN: u8 = 5;
 
-// the plan does not fit
+// the plan does not fit, or a table of columns is none
 pub const BAD_PLAN: u8 = 6;
 
 // the envelope is longer than the limit

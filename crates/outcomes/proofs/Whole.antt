@@ -8,6 +8,7 @@ use Rattle.plan_doors.proofs.Outcome as plan-doors
 use Rattle.factor_doors.proofs.Outcome as factor-doors
 use Rattle.gradient_doors.proofs.Outcome as gradient-doors
 use Rattle.step_doors.proofs.Outcome as step-doors
+use Rattle.columns_doors.proofs.Outcome as columns-doors
 use Rattle.step_tally.proofs.Outcome as step-tally
 use Rattle.bench_desk.proofs.Outcome as bench-desk
 use Rattle.outcomes.specs.Calls.{EveryCall}
@@ -44,6 +45,11 @@ one-outcome = record {
   step-doors-factorize-step-matrix = step-doors.one-factorize-step-matrix;
   step-doors-solve-step = step-doors.one-solve-step;
   step-doors-response-into = step-doors.one-response-into;
+  columns-doors-clear-columns = columns-doors.one-clear-columns;
+  columns-doors-load-particle = columns-doors.one-load-particle;
+  columns-doors-compute-columns = columns-doors.one-compute-columns;
+  columns-doors-response-from-columns = columns-doors.one-response-from-columns;
+  columns-doors-particle-block-from-columns = columns-doors.one-particle-block-from-columns;
   step-tally-fresh = step-tally.one-fresh;
   step-tally-total = step-tally.one-total;
   step-tally-added = step-tally.one-added;

@@ -31,6 +31,11 @@ use Rattle.gradient_doors.proofs.solve as gradient-solve
 use Rattle.step_doors.proofs.factorize_step_matrix as factorize-step-matrix
 use Rattle.step_doors.proofs.solve_step as solve-step
 use Rattle.step_doors.proofs.response_into as response-into
+use Rattle.columns_doors.proofs.clear_columns as clear-columns
+use Rattle.columns_doors.proofs.load_particle as load-particle
+use Rattle.columns_doors.proofs.compute_columns as compute-columns
+use Rattle.columns_doors.proofs.response_from_columns as response-from-columns
+use Rattle.columns_doors.proofs.particle_block_from_columns as particle-block-from-columns
 use Rattle.step_tally.proofs.fresh as fresh
 use Rattle.step_tally.proofs.total as total
 use Rattle.step_tally.proofs.added as added
@@ -78,6 +83,12 @@ pub record EveryCall : Type 2 where
   pub step-doors-factorize-step-matrix : OneOutcome factorize-step-matrix.ended (λ M. factorize-step-matrix.spec)
   pub step-doors-solve-step : OneOutcome solve-step.ended (λ M. solve-step.spec)
   pub step-doors-response-into : OneOutcome response-into.ended (λ M. response-into.spec)
+  -- columns_doors
+  pub columns-doors-clear-columns : OneOutcome clear-columns.ended (λ M. clear-columns.spec)
+  pub columns-doors-load-particle : OneOutcome load-particle.ended (λ M. load-particle.spec)
+  pub columns-doors-compute-columns : OneOutcome compute-columns.ended (λ M. compute-columns.spec)
+  pub columns-doors-response-from-columns : OneOutcome response-from-columns.ended (λ M. response-from-columns.spec)
+  pub columns-doors-particle-block-from-columns : OneOutcome particle-block-from-columns.ended (λ M. particle-block-from-columns.spec)
   -- step_tally
   pub step-tally-fresh : OneOutcome fresh.ended (λ M. fresh.spec)
   pub step-tally-total : OneOutcome total.ended (λ M. total.spec)

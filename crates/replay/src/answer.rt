@@ -131,6 +131,10 @@ fn operate(name: &[u8], w: &[u32], out: &mut Room) -> usize
     if stepped > 0 {
         return stepped;
     }
+    let combined = replay_columns::operation::operate(name, w, out);
+    if combined > 0 {
+        return combined;
+    }
     matrix(name, w, out)
 }
 

@@ -2,8 +2,8 @@
 
 use crate::fixture::{scaled, BRACKET};
 use bracket::{
-    BlockMatrix, ConjugateGradient, Error, Responded, SkylineCholesky, SoftFemParameters, Step,
-    Tally, Vector,
+    BlockMatrix, Combined, ConjugateGradient, Error, Responded, SkylineCholesky, SoftFemParameters,
+    Step, Tally, Vector,
 };
 use std::fmt::Debug;
 
@@ -211,4 +211,64 @@ fn of_a_step() {
         assert_eq!(tally.total(), asked);
     }
     assert!(tally.counts().iter().all(|&count| count > 10), "{tally}");
+}
+
+/// Of these the computed columns alone are counted: two solves for each loaded particle, or one refused call.
+#[test]
+fn of_columns() {
+    let draw = &mut Draw(5);
+    let (mut tally, mut asked) = (Tally::default(), 0);
+    let mut step = Step::default();
+    let mut met = [0; 6];
+    for _ in 0..8000 {
+        let (matrix, params, mut out) = (draw.matrix(), draw.params(), draw.vectors());
+        match draw.below(40) {
+            0 => step = Step::new(&draw.marks()),
+            1..=4 => {
+                let _ = called(&mut step, &mut out, |step, _| {
+                    step.factorize_step_matrix(&matrix, &params)
+                });
+            }
+            5 => called(&mut step, &mut out, |step, _| step.clear_columns()).unwrap(),
+            6..=15 => {
+                let particle = draw.index();
+                let _ = called(&mut step, &mut out, |step, _| step.load_particle(particle));
+            }
+            16..=23 => {
+                let computed = called(&mut step, &mut out, |step, _| {
+                    step.compute_columns(&params, &mut tally)
+                });
+                assert!(computed.is_err() || computed.ok() == step.computed());
+                asked += computed.map_or(1, |computed| computed.total());
+                met[0] += usize::from(computed.is_ok_and(|computed| computed.total() > 2));
+            }
+            24..=33 => {
+                let count = draw.one(&[0, 1, 1, 2, 2, 16, 17]);
+                let entries: Vec<_> = (0..count)
+                    .map(|_| (draw.one(&[0, 1, 2, 7, 7, 14, 14, 15]), [draw.float(), 1.0]))
+                    .collect();
+                let combined = called(&mut step, &mut out, |step, out| {
+                    step.response_from_columns(&entries, out)
+                });
+                match combined {
+                    Ok(Combined::Gain(_)) => met[1] += 1,
+                    Ok(Combined::NotLoaded) => met[2] += 1,
+                    Ok(Combined::Nothing) => met[3] += 1,
+                    Err(_) => {}
+                }
+            }
+            _ => {
+                let particle = draw.index();
+                let mut both = [out.clone(), out].concat();
+                let block = called(&mut step, &mut both, |step, out| {
+                    step.particle_block_from_columns(particle, out)
+                });
+                met[4] += usize::from(block.is_ok_and(|block| block.block().is_some()));
+                met[5] += usize::from(block.is_ok_and(|block| block.block().is_none()));
+            }
+        }
+        assert!(step.num_columns() <= 16);
+        assert_eq!(tally.total(), asked);
+    }
+    assert!(met.iter().all(|&count| count > 10), "{met:?}");
 }

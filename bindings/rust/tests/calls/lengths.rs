@@ -140,6 +140,34 @@ fn of_a_step_solve() {
     assert_eq!((tally.refused, tally.total()), (12, 12));
 }
 
+/// Both before there are columns and after.
+#[test]
+fn of_a_combination_and_a_block() {
+    let mut step = factored(&DENSE);
+    for loaded in [false, true] {
+        if loaded {
+            step.load_particle(4).unwrap();
+            let computed = step.compute_columns(&DENSE, &mut Tally::default());
+            assert!(computed.unwrap().solved());
+        }
+        for given in WRONG {
+            let mut out = list(given);
+            let combined = step.response_from_columns(&[(N as u32, [1.0, 1.0])], &mut out);
+            assert_eq!((combined, out), (wrong("out", given), list(given)));
+        }
+        for given in [N, 2 * N - 1, 2 * N + 1, 0] {
+            let mut out = list(given);
+            let block = step.particle_block_from_columns(N as u32, &mut out);
+            let wanted = Error::Length {
+                list: "out of both columns",
+                needed: 2 * N,
+                given,
+            };
+            assert_eq!((block, out), (Err(wanted), list(given)));
+        }
+    }
+}
+
 #[test]
 fn of_a_response() {
     let (mut step, mut tally) = (factored(&DENSE), Tally::default());

@@ -2,6 +2,7 @@
 
 mod anything;
 mod build;
+mod columns;
 mod fixture;
 mod gradient;
 mod lengths;

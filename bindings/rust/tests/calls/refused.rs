@@ -1,5 +1,5 @@
-//! A call that fails leaves the object and every lent list as they were: a test for each method. The next good call gives bit for bit
-//! what it gave before. What no caller can bring about is tried from inside, in src/spoiled.rs.
+//! A call that fails leaves the object and every lent list as they were: a test for each method, of columns in columns.rs. The next good
+//! call gives bit for bit what it gave before. What no caller can bring about is tried from inside, in src/spoiled.rs.
 
 use crate::fixture::{close, factored, scaled, single, zeros, BRACKET, DENSE, SPARSE};
 use bracket::{
@@ -9,14 +9,14 @@ use bracket::{
 use std::fmt::Debug;
 
 /// What a call answers and leaves in the list that it's lent.
-fn shown<T: Debug>(mut list: Vec<Vector>, call: impl FnOnce(&mut [Vector]) -> T) -> String {
+pub fn shown<T: Debug>(mut list: Vec<Vector>, call: impl FnOnce(&mut [Vector]) -> T) -> String {
     let answer = call(&mut list);
     let bits: Vec<u32> = list.as_flattened().iter().map(|x| x.to_bits()).collect();
     format!("{answer:?} {bits:?}")
 }
 
 /// Makes a bad call, which must fail by `wanted`, between two good ones. `Debug` shows every field, to the bit.
-fn stays<T: Debug, A: Debug + PartialEq>(
+pub fn stays<T: Debug, A: Debug + PartialEq>(
     object: &mut T,
     good: impl Fn(&mut T) -> String,
     wanted: Error,

@@ -117,6 +117,13 @@ fn turned_down(tally: &mut Tally) -> u32 {
     respond(&mut dense, &mut x[1..], &DENSE);
     respond(&mut dense, &mut x, &SPARSE);
     respond(&mut sparse, &mut x, &DENSE);
+    for (step, params) in [
+        (&mut empty, &DENSE),
+        (&mut dense, &SPARSE),
+        (&mut sparse, &DENSE),
+    ] {
+        errors.push(step.compute_columns(params, tally).unwrap_err());
+    }
     assert!(
         errors.iter().all(|error| error.number().is_none()),
         "{errors:?}"

@@ -1,7 +1,8 @@
 //! What is said in words, and the answers' own questions.
 
 use bracket::{
-    Error, Factored, Marked, Outcome, Refusal, Responded, SkylineCholesky, Stepped, Tally,
+    Combined, Computed, Error, Factored, Marked, Outcome, ParticleBlock, Refusal, Responded,
+    SkylineCholesky, Stepped, Tally,
 };
 
 const ZERO: Outcome = Outcome::Zero { count: 0 };
@@ -124,6 +125,60 @@ fn responses() {
 }
 
 #[test]
+fn columns() {
+    let said = [
+        ([0; 6], "nothing to solve: no particle is loaded"),
+        (
+            [8, 0, 0, 0, 0, 0],
+            "solved: 8 columns; direct 8, zero 0, near 0, converged 0, curvature 0, limit 0",
+        ),
+        (
+            [0, 1, 2, 3, 0, 0],
+            "solved: 6 columns; direct 0, zero 1, near 2, converged 3, curvature 0, limit 0",
+        ),
+        (
+            [1, 2, 3, 4, 5, 6],
+            "not solved: 11 of 21 columns; direct 1, zero 2, near 3, converged 4, curvature 5, limit 6",
+        ),
+    ];
+    for (ended, words) in said {
+        let computed = Computed::from(ended);
+        assert_eq!(computed.to_string(), words);
+        assert_eq!(computed.solved(), !words.starts_with("not solved"));
+        assert_eq!(computed.total(), ended.map(u64::from).iter().sum());
+    }
+    let full = Computed::from([u32::MAX; 6]);
+    assert_eq!(full.total(), 3 * full.unsolved());
+}
+
+#[test]
+fn combinations() {
+    let said = [Combined::Gain(0.5), Combined::Nothing, Combined::NotLoaded];
+    assert_eq!(
+        said.map(|combined| combined.gain()),
+        [Some(0.5), Some(0.0), None]
+    );
+    assert_eq!(
+        said.map(|combined| combined.to_string()),
+        [
+            "gain 0.5; combined from the columns",
+            "gain 0; nothing to combine: no entry is at a free particle",
+            "not combined: a particle isn't loaded",
+        ]
+    );
+    let block = [[2.0, -1.0], [-1.0, 1.5]];
+    let said = [ParticleBlock::Block(block), ParticleBlock::NotLoaded];
+    assert_eq!(said.map(|answer| answer.block()), [Some(block), None]);
+    assert_eq!(
+        said.map(|answer| answer.to_string()),
+        [
+            "block [[2.0, -1.0], [-1.0, 1.5]]",
+            "no block: the particle isn't loaded"
+        ]
+    );
+}
+
+#[test]
 fn tallies() {
     assert_eq!(
         Tally::from([1, 2, 3, 4, 5, 6, 7]).to_string(),
@@ -131,7 +186,7 @@ fn tallies() {
     );
 }
 
-const ERRORS: [Error; 9] = [
+const ERRORS: [Error; 11] = [
     Error::Refused(Refusal::BadSettings),
     Error::Length {
         list: "b",
@@ -143,6 +198,11 @@ const ERRORS: [Error; 9] = [
         needed: 15,
         given: 3,
     },
+    Error::Length {
+        list: "out of both columns",
+        needed: 30,
+        given: 15,
+    },
     Error::NoPlan,
     Error::NotFactored,
     Error::FactorFailed {
@@ -151,6 +211,7 @@ const ERRORS: [Error; 9] = [
     },
     Error::NoPreconditioner,
     Error::NoMatrix,
+    Error::NotComputed,
     Error::NoBlock { row: 0, col: 2 },
 ];
 
@@ -163,11 +224,13 @@ fn errors_say_what_to_do() {
             "refused by number 8: the tolerance isn't finite and at least zero, or more than 4,096 iterations; change the settings",
             "`b` is for 14 particles where 15 are needed; hand over one for exactly 15",
             "`preconditioner` is for 3 particles where 15 are needed; call update_preconditioner with this matrix",
+            "`out` has 15 vectors where 30 are needed; hand over two vectors for each particle",
             "there is no plan; plan the matrix by SkylineCholesky::new, or factor the step's matrix by these settings",
             "there is no factor yet; call factorize",
             "not factored: row 3 of the plan's order has the pivot -0.5, which isn't above zero; factorize another matrix, or iterate",
             "there is no preconditioner yet; call update_preconditioner, or factor the step's matrix by these settings",
             "the step has no matrix; call factorize_step_matrix",
+            "the loaded particles have no columns of the step's matrix; call compute_columns",
             "the pattern has no block (0, 2); name the pair to from_pairs",
         ]
     );
@@ -186,7 +249,7 @@ fn every_refusal_says_what_to_do_after_its_own_words() {
 
 #[test]
 fn an_error_of_the_wrapper_has_no_number() {
-    assert_eq!(ERRORS.map(|error| error.number())[1..], [None; 8]);
+    assert_eq!(ERRORS.map(|error| error.number())[1..], [None; 10]);
     let failed: Result<(), Box<dyn std::error::Error>> = (|| {
         SkylineCholesky::default().solve(&[], &mut [])?;
         Ok(())

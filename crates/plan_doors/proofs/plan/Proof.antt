@@ -1,12 +1,20 @@
 -- `plan_doors::plan` meets its contract. Assumes nothing.
 use mathlib.Core.Path.{refl, sym, _∙_}
-use Rattle.plan_doors.specs.Planning.{ready, refused-early, worked}
-use borrow.Author.Needs.{needs}
+use Rattle.plan_make.specs.Plan.{four}
+use Rattle.plan_make.specs.Parts.{five}
+use Rattle.plan_doors.specs.Planning.{In, given, ready, refused-early, worked}
 use Rattle.plan_doors.proofs.plan.Statement.{statement}
 use Rattle.plan_doors.proofs.plan.Tie as tie
 
+-- what the call is handed
+abbrev input : tie.Start → In
+input s =
+    let a = s .args in
+    given (a .n) (a .row-offsets .now) (a .cols .now) (a .diagonal .now) (four (a .perm .now) (a .inv-perm .now) (a .first .now) (a .row-start .now))
+    (five (a .degrees .now) (a .placed .now) (a .mark .now) (a .level .now) (a .queue .now))
+
 planning-requires : tie.Need-planning-requires
-planning-requires c κs = search needs
+planning-requires c κs = tt
 
 same-length : tie.Need-same-length
 same-length c = refl
@@ -41,10 +49,12 @@ returns c = refused-early _ _ (c .before .planning .ensures) (c .if1 .taken)
 plan-requires : tie.Need-plan-requires
 plan-requires c κs =
     let k = c .before .before .before .before .before .before .before .before .before in
-    ready _ (sym (k .before .planning .ensures) ∙ k .if1 .left)
+    let s = k .before .before .before .before .before .before .before .before .before .before .before .before
+    .before .before .before .before .before .before .before .before .before .before .before in
+    ready (input s) (sym (k .before .planning .ensures) ∙ k .if1 .left)
 
 answer-requires : tie.Need-answer-requires
-answer-requires c κs = search needs
+answer-requires c κs = tt
 
 same-length-10 : tie.Need-same-length-10
 same-length-10 c = c .before .before .before .before .before .before .before .before .before .before .before .before .before .before .before .before
@@ -87,7 +97,12 @@ returns-2 c =
     let w = c .before .before .before .before .before .before .before .before .before .before .before .before .before .before .before .before .before
     .before .before in
     let k = w .before .before .before .before .before .before .before .before .before .before in
-    worked _ _ (k .before .planning .ensures) (k .if1 .left) _ _ _ (w .plan .ensures) _ (c .answer .ensures)
+    let l = w .plan .last .1 .1 .1 .1 in
+    let m = l .1 .1 .1 .1 in
+    let s = k .before .before .before .before .before .before .before .before .before .before .before .before
+    .before .before .before .before .before .before .before .before .before .before .before in
+    worked (input s) _ (k .before .planning .ensures) (k .if1 .left) (w .plan .result) (four (l .0) (l .1 .0) (l .1 .1 .0) (l .1 .1 .1 .0))
+    (five (m .0) (m .1 .0) (m .1 .1 .0) (m .1 .1 .1 .0) (m .1 .1 .1 .1 .0)) (w .plan .ensures) (c .answer .result) (c .answer .ensures)
 
 pub plan-spec : {M : Type 1} → statement M
 plan-spec =

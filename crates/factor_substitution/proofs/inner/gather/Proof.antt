@@ -25,7 +25,7 @@ shared-slice-read-wide : tie.Need-shared-slice-read-wide Inv-loop μ-loop
 shared-slice-read-wide c = search needs
 
 wide-requires : tie.Need-wide-requires Inv-loop μ-loop
-wide-requires c κs = search needs
+wide-requires c κs = tt
 
 vector-at-requires : tie.Need-vector-at-requires Inv-loop μ-loop
 vector-at-requires c κs =
@@ -55,7 +55,7 @@ loop-again c =
     (λ e. (rw (w .before .vector-at .ensures, v .wide .ensures .same)))
 
 same-length : tie.Need-same-length Inv-loop μ-loop
-same-length c = search needs
+same-length c = c .before .loop .inv .2
 
 returns : tie.Need-returns Inv-loop μ-loop
 returns c = let q = c .before in front-done _ (λ j. refl) _ _ _ _ (q .loop .inv) (c .loop-test .left)

@@ -1,4 +1,6 @@
 -- `factor_substitution::inner::solve` meets its contract. Assumes nothing.
+use mathlib.Core.Path.{sym, _∙_}
+use native.Mathlib.Nat.{le-of-eq}
 use native.Mathlib.Omega.{arith}
 use denote.Ref.{now}
 use Rattle.matrix_shape.specs.Rows.{at}
@@ -12,7 +14,9 @@ mul-m : tie.Need-mul-m
 mul-m c = search needs
 
 gather-requires : tie.Need-gather-requires
-gather-requires c κs = search needs
+gather-requires c κs =
+    let s = c .before .before .before .before .before .before .before .before .before in
+    ((s .pre .0 .laid .places, s .pre .1 .0 .1, le-of-eq (sym (s .pre .1 .1 .1))), s .pre .0 .planned .particle)
 
 forward-requires : tie.Need-forward-requires
 forward-requires c κs =
@@ -28,7 +32,13 @@ backward-requires c κs =
     (held-of (s .pre .0) (s .pre .1 .0 .0), omega (arith, f .forward .kept .1 .1 .1 .1 .0, g .gather .kept .1 .1 .1 .0, s .pre .1 .1 .1))
 
 gather-requires-2 : tie.Need-gather-requires-2
-gather-requires-2 c κs = search needs
+gather-requires-2 c κs =
+    let k = c .before .before .before .before in
+    let f = k .before .before .before .before in
+    let g = f .before .before .before .before in
+    let s = g .before .before .before .before .before .before .before .before .before .before in
+    let long = k .backward .kept .1 .1 .1 .1 .0 ∙ f .forward .kept .1 .1 .1 .1 .0 ∙ g .gather .kept .1 .1 .1 .0 ∙ s .pre .1 .1 .1 in
+    ((s .pre .0 .laid .marks, le-of-eq (sym long), le-of-eq (sym (s .pre .1 .1 .0))), s .pre .0 .planned .position)
 
 clear-requires : tie.Need-clear-requires
 clear-requires c κs =
@@ -39,10 +49,14 @@ clear-requires c κs =
     omega (arith, k .backward .kept .1 .1 .1 .1 .0, f .forward .kept .1 .1 .1 .1 .0, g .gather .kept .1 .1 .1 .0, s .pre .1 .1 .1)
 
 same-length : tie.Need-same-length
-same-length c = search needs
+same-length c = c .before .before .before .before .before .before .gather2 .kept .1 .1 .1 .0
 
 same-length-2 : tie.Need-same-length-2
-same-length-2 c = search needs
+same-length-2 c =
+    let d = c .before .before in
+    let k = d .before .before .before .before .before .before .before .before .before in
+    let f = k .before .before .before .before in
+    d .clear .kept .1 .0 ∙ k .backward .kept .1 .1 .1 .1 .0 ∙ f .forward .kept .1 .1 .1 .1 .0 ∙ f .before .before .before .before .gather .kept .1 .1 .1 .0
 
 returns : tie.Need-returns
 returns c =

@@ -1,5 +1,5 @@
 -- `order_search::breadth::meet_row` meets its contract. Assumes nothing.
-use Prim.Native.Nat.{ℕ, suc, _-_, _≤_, _<_}
+use Prim.Native.Nat.{ℕ, suc, _+_, _-_, _≤_, _<_}
 use native.Mathlib.Numerals.{add-one}
 use native.Mathlib.Omega.{arith}
 use mathlib.Core.Logic.{⊎-elim}
@@ -28,7 +28,7 @@ shared-slice-read-wide : tie.Need-shared-slice-read-wide Inv-loop μ-loop
 shared-slice-read-wide c = search needs
 
 wide-requires : tie.Need-wide-requires Inv-loop μ-loop
-wide-requires c κs = search needs
+wide-requires c κs = tt
 
 add-wide : tie.Need-add-wide Inv-loop μ-loop
 add-wide c = search needs
@@ -40,7 +40,7 @@ shared-slice-read-wide-2 : tie.Need-shared-slice-read-wide-2 Inv-loop μ-loop
 shared-slice-read-wide-2 c = search needs
 
 wide-requires-2 : tie.Need-wide-requires-2 Inv-loop μ-loop
-wide-requires-2 c κs = search needs
+wide-requires-2 c κs = tt
 
 loop-holds : tie.Need-loop-holds Inv-loop μ-loop
 loop-holds c =
@@ -65,7 +65,7 @@ shared-slice-read-c : tie.Need-shared-slice-read-c Inv-loop μ-loop
 shared-slice-read-c c = search needs
 
 wide-requires-3 : tie.Need-wide-requires-3 Inv-loop μ-loop
-wide-requires-3 c κs = search needs
+wide-requires-3 c κs = tt
 
 is-new-requires : tie.Need-is-new-requires Inv-loop μ-loop
 is-new-requires c κs =
@@ -162,13 +162,15 @@ loop-again c =
     let a = c .before .before .before .before .before .before .before .before .before .wide .result in
     let e₃ = c .before .before .before .wide3 .ensures .same in
     let lt : l .k < length (b .args .cols .now) = omega (arith, l .inv .1, b .pre .0 .fits) in
+    let low : a ≤ l .k + 1 = omega (arith, l .inv .2) in
+    let high : l .k + 1 ≤ c .before .before .before .before .before .before .before .wide2 .result = omega arith in
     ⊎-elim
     (λ w.
     let t : tie.Then1 Inv-loop μ-loop = record { before = c .before; if1 = w .0 } in (
       l .inv .0,
       l .inv .1,
-      omega arith,
-      omega arith,
+      low,
+      high,
       rw (w .2) (simp length-set (l .inv .4)),
       rw (w .1) (simp length-set (l .inv .5)),
       rw (w .1, w .2, w .3, add-one (l .k), e₃) (meet-yes (b .args .cols .now) (b .args .mark .now) (b .args .v) (b .args .l) a
@@ -178,8 +180,8 @@ loop-again c =
     (λ w. (
       l .inv .0,
       l .inv .1,
-      omega arith,
-      omega arith,
+      low,
+      high,
       rw (w .2) (l .inv .4),
       rw (w .1) (l .inv .5),
       rw (w .1, w .2, w .3, add-one (l .k)) (meet-no (b .args .cols .now) (b .args .mark .now) (b .args .v) (b .args .l) a
@@ -190,10 +192,10 @@ loop-again c =
     (c .if1 .came)
 
 same-length : tie.Need-same-length Inv-loop μ-loop
-same-length c = search needs
+same-length c = c .before .loop .inv .5
 
 same-length-2 : tie.Need-same-length-2 Inv-loop μ-loop
-same-length-2 c = search needs
+same-length-2 c = c .before .loop .inv .4
 
 returns : tie.Need-returns Inv-loop μ-loop
 returns c =

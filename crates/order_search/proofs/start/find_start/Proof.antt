@@ -74,10 +74,16 @@ settle-start-requires c κs =
     )
 
 same-length : tie.Need-same-length
-same-length c = search needs
+same-length c =
+    let f = c .before .before .before .before in
+    let k = f .before .before .before .before .before .before .before in
+    f .settle-start .kept .1 .1 .1 .1 .0 ∙ k .look .kept .1 .1 .1 .1 .0
 
 same-length-2 : tie.Need-same-length-2
-same-length-2 c = search needs
+same-length-2 c =
+    let f = c .before .before .before .before in
+    let k = f .before .before .before .before .before .before .before in
+    f .settle-start .kept .1 .1 .1 .1 .1 .0 ∙ k .look .kept .1 .1 .1 .1 .1 .0 ∙ k .before .before .before .before .before .before .before .count-up .kept .0
 
 returns : tie.Need-returns
 returns c =

@@ -4,7 +4,6 @@ use native.Mathlib.Omega.{arith}
 use mathlib.Core.Path.{sym, _∙_, subst}
 use lib.Seq.{length-take-le}
 use lib.ListN.{length, getD, take}
-use borrow.Author.Needs.{needs}
 use Rattle.order_definition.specs.Keys.{Below}
 use Rattle.order_search.proofs.Looking.{some, len-le, last-below, deep-is, part-below, far-is}
 use Rattle.order_search.proofs.start.look.Statement.{statement}
@@ -54,7 +53,7 @@ slice-read-wide c =
     )
 
 wide-requires : tie.Need-wide-requires
-wide-requires c κs = search needs
+wide-requires c κs = tt
 
 mul-deep : tie.Need-mul-deep
 mul-deep c =
@@ -123,10 +122,10 @@ least-where-requires c κs =
     )
 
 same-length : tie.Need-same-length
-same-length c = search needs
+same-length c = c .before .before .before .before .before .before .before .before .before .before .explore .kept .1 .1 .1 .0
 
 same-length-2 : tie.Need-same-length-2
-same-length-2 c = search needs
+same-length-2 c = c .before .before .before .before .before .before .before .before .before .before .explore .kept .1 .1 .1 .1 .0
 
 returns : tie.Need-returns
 returns c =

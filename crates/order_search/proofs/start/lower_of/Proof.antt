@@ -28,7 +28,7 @@ cast-comes-before-2 : tie.Need-cast-comes-before-2
 cast-comes-before-2 c = search needs
 
 comes-before-requires : tie.Need-comes-before-requires
-comes-before-requires c κs = search needs
+comes-before-requires c κs = tt
 
 returns-2 : tie.Need-returns-2
 returns-2 c = let b = c .before .before .before .before .before .before in rw (

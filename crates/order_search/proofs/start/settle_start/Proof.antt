@@ -32,10 +32,16 @@ look-requires c κs =
     (b .pre .0, (b .pre .1 .0, (l .inv .1, (l .inv .2, (b .pre .1 .1 .1 .1 .0, l .inv .4)))))
 
 same-length : tie.Need-same-length Inv-loop μ-loop
-same-length c = search needs
+same-length c =
+    let f = c .before .before .before .before .before .before in
+    let q = f .before .before .before .before in
+    f .look .kept .1 .1 .1 .1 .0 ∙ q .loop .inv .1 ∙ sym (q .before .before .before .before .before .before .before .pre .1 .1 .0)
 
 same-length-2 : tie.Need-same-length-2 Inv-loop μ-loop
-same-length-2 c = search needs
+same-length-2 c =
+    let f = c .before .before .before .before .before .before in
+    let q = f .before .before .before .before in
+    f .look .kept .1 .1 .1 .1 .1 .0 ∙ q .loop .inv .2 ∙ sym (q .before .before .before .before .before .before .before .pre .1 .1 .1 .0)
 
 returns : tie.Need-returns Inv-loop μ-loop
 returns c =
@@ -68,10 +74,10 @@ loop-again c =
     )
 
 same-length-3 : tie.Need-same-length-3 Inv-loop μ-loop
-same-length-3 c = search needs
+same-length-3 c = c .before .loop .inv .1 ∙ sym (c .before .before .before .before .before .before .before .before .pre .1 .1 .0)
 
 same-length-4 : tie.Need-same-length-4 Inv-loop μ-loop
-same-length-4 c = search needs
+same-length-4 c = c .before .loop .inv .2 ∙ sym (c .before .before .before .before .before .before .before .before .pre .1 .1 .1 .0)
 
 returns-2 : tie.Need-returns-2 Inv-loop μ-loop
 returns-2 c =

@@ -17,7 +17,7 @@ shared-slice-read-wide : tie.Need-shared-slice-read-wide
 shared-slice-read-wide c = search needs
 
 wide-requires : tie.Need-wide-requires
-wide-requires c κs = search needs
+wide-requires c κs = tt
 
 mul-rows : tie.Need-mul-rows
 mul-rows c = search needs
@@ -46,63 +46,79 @@ slice-aggregate-plan-2 c = sym (length-take-le _ _
     )))
 
 slice-relend-prefix-plan : tie.Need-slice-relend-prefix-plan
-slice-relend-prefix-plan c = search needs
+slice-relend-prefix-plan c = c .before .before .before .before .before .before .before .before .before .before .before .before .before .before
+    .before .before .pre .order
 
 slice-aggregate-plan-3 : tie.Need-slice-aggregate-plan-3
 slice-aggregate-plan-3 c = sym (length-take-le _ _ (c .before .before .before .before .before .before .before .before .before .before .before .before
     .before .before .before .before .before .pre .order))
 
 slice-relend-prefix-plan-2 : tie.Need-slice-relend-prefix-plan-2
-slice-relend-prefix-plan-2 c = search needs
+slice-relend-prefix-plan-2 c =
+    c .before .before .before .before .before .before .before .before .before .before .before .before .before .before .before .before .before .pre .inverse
 
 slice-aggregate-plan-4 : tie.Need-slice-aggregate-plan-4
 slice-aggregate-plan-4 c = sym (length-take-le _ _ (c .before .before .before .before .before .before .before .before .before .before .before .before
     .before .before .before .before .before .before .pre .inverse))
 
 slice-relend-prefix-plan-3 : tie.Need-slice-relend-prefix-plan-3
-slice-relend-prefix-plan-3 c = search needs
+slice-relend-prefix-plan-3 c =
+    c .before .before .before .before .before .before .before .before .before .before .before .before .before .before .before .before .before
+    .before .pre .first
 
 slice-aggregate-plan-5 : tie.Need-slice-aggregate-plan-5
 slice-aggregate-plan-5 c = sym (length-take-le _ _ (c .before .before .before .before .before .before .before .before .before .before .before .before
     .before .before .before .before .before .before .before .pre .first))
 
 slice-relend-prefix-plan-4 : tie.Need-slice-relend-prefix-plan-4
-slice-relend-prefix-plan-4 c = search needs
+slice-relend-prefix-plan-4 c =
+    c .before .before .before .before .before .before .before .before .before .before .before .before .before .before .before .before .before
+    .before .before .pre .rows
 
 slice-aggregate-plan-6 : tie.Need-slice-aggregate-plan-6
 slice-aggregate-plan-6 c = sym (length-take-le _ _ (c .before .before .before .before .before .before .before .before .before .before .before .before
     .before .before .before .before .before .before .before .before .pre .rows))
 
 slice-relend-prefix-plan-5 : tie.Need-slice-relend-prefix-plan-5
-slice-relend-prefix-plan-5 c = search needs
+slice-relend-prefix-plan-5 c =
+    c .before .before .before .before .before .before .before .before .before .before .before .before .before .before .before .before .before
+    .before .before .before .pre .degrees
 
 slice-aggregate-plan-7 : tie.Need-slice-aggregate-plan-7
 slice-aggregate-plan-7 c = sym (length-take-le _ _ (c .before .before .before .before .before .before .before .before .before .before .before .before
     .before .before .before .before .before .before .before .before .before .pre .degrees))
 
 slice-relend-prefix-plan-6 : tie.Need-slice-relend-prefix-plan-6
-slice-relend-prefix-plan-6 c = search needs
+slice-relend-prefix-plan-6 c =
+    c .before .before .before .before .before .before .before .before .before .before .before .before .before .before .before .before .before
+    .before .before .before .before .pre .placed
 
 slice-aggregate-plan-8 : tie.Need-slice-aggregate-plan-8
 slice-aggregate-plan-8 c = sym (length-take-le _ _ (c .before .before .before .before .before .before .before .before .before .before .before .before
     .before .before .before .before .before .before .before .before .before .before .pre .placed))
 
 slice-relend-prefix-plan-7 : tie.Need-slice-relend-prefix-plan-7
-slice-relend-prefix-plan-7 c = search needs
+slice-relend-prefix-plan-7 c =
+    c .before .before .before .before .before .before .before .before .before .before .before .before .before .before .before .before .before
+    .before .before .before .before .before .pre .mark
 
 slice-aggregate-plan-9 : tie.Need-slice-aggregate-plan-9
 slice-aggregate-plan-9 c = sym (length-take-le _ _ (c .before .before .before .before .before .before .before .before .before .before .before .before
     .before .before .before .before .before .before .before .before .before .before .before .pre .mark))
 
 slice-relend-prefix-plan-8 : tie.Need-slice-relend-prefix-plan-8
-slice-relend-prefix-plan-8 c = search needs
+slice-relend-prefix-plan-8 c =
+    c .before .before .before .before .before .before .before .before .before .before .before .before .before .before .before .before .before
+    .before .before .before .before .before .before .pre .level
 
 slice-aggregate-plan-10 : tie.Need-slice-aggregate-plan-10
 slice-aggregate-plan-10 c = sym (length-take-le _ _ (c .before .before .before .before .before .before .before .before .before .before .before .before
     .before .before .before .before .before .before .before .before .before .before .before .before .pre .level))
 
 slice-relend-prefix-plan-9 : tie.Need-slice-relend-prefix-plan-9
-slice-relend-prefix-plan-9 c = search needs
+slice-relend-prefix-plan-9 c =
+    c .before .before .before .before .before .before .before .before .before .before .before .before .before .before .before .before .before
+    .before .before .before .before .before .before .before .pre .queue
 
 slice-aggregate-plan-11 : tie.Need-slice-aggregate-plan-11
 slice-aggregate-plan-11 c = sym (length-take-le _ _ (c .before .before .before .before .before .before .before .before .before .before .before .before

@@ -1,0 +1,4 @@
+pub mod Loads
+pub mod Computes
+pub mod Combines
+pub mod Blocks

@@ -1,0 +1,5 @@
+pub mod Summed
+pub mod Readable
+pub mod Said
+pub mod Combining
+pub mod Blocking

@@ -1,0 +1,4 @@
+pub mod Solution
+pub mod Computed
+pub mod Combined
+pub mod Calls
