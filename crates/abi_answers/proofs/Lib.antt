@@ -1,2 +1,1 @@
-mod RowReadings
 mod Readings

@@ -2,4 +2,3 @@ pub mod Telling
 pub mod Numbers
 pub mod Told
 pub mod Direct
-pub mod Row

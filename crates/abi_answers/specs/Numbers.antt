@@ -4,9 +4,10 @@ use mathlib.Core.Path.{_≡_, sym, ap, _∙_, subst}
 use Rattle.law.specs.Promise.{Door, Promise, outcome}
 use Rattle.law.specs.Said.{refusalOf}
 use Rattle.law.specs.One.{One, comes-so}
-use Rattle.matrix_doors.specs.Said.{builtSaid, ranSaid, foundSaid}
+use Rattle.matrix_building.specs.Said.{builtSaid}
+use Rattle.matrix_doors.specs.Said.{ranSaid, foundSaid}
 use Rattle.plan_doors.specs.Said.{plannedSaid}
-use Rattle.matrix_doors.specs.declared.Built.{Built}
+use Rattle.matrix_building.specs.declared.Built.{Built}
 use Rattle.matrix_doors.specs.declared.Found.{Found}
 use Rattle.matrix_doors.specs.declared.Ran.{Ran}
 use Rattle.plan_doors.specs.declared.Planned.{Planned}

@@ -1,5 +1,5 @@
 // The block matrix's answers.
-use matrix_doors::Built;
+use matrix_building::Built;
 use matrix_doors::Found;
 use matrix_doors::Ran;
 ghost use mathlib.Core.Path.{_≡_};

@@ -3,4 +3,3 @@ pub mod built;
 pub mod ended;
 pub mod factored;
 pub mod planned;
-pub mod row;

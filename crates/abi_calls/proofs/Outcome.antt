@@ -2,8 +2,8 @@
 use mathlib.Core.Path.{refl}
 use Rattle.law.specs.One.{OneOutcome, plainly, past, of-parts, of-both}
 use Rattle.matrix_row_view.specs.Showing as showing
-use Rattle.matrix_doors.specs.FromPairs as frompairs
-use Rattle.matrix_doors.specs.Building as building
+use Rattle.matrix_building.specs.FromPairs as frompairs
+use Rattle.matrix_building.specs.Building as building
 use Rattle.matrix_doors.specs.Clearing as clearing
 use Rattle.matrix_doors.specs.Multiplying as multiplying
 use Rattle.matrix_doors.specs.Pinning as pinning
@@ -14,7 +14,7 @@ use Rattle.factor_doors.specs.Solving as direct-solving
 use Rattle.gradient_doors.specs.Updating as updating
 use Rattle.gradient_doors.specs.Solving as solving
 use Rattle.abi_answers.specs.Numbers.{builtNumber, ranNumber, plannedNumber, of-numbered, of-told}
-use Rattle.abi_answers.specs.Row.{spannedNumber, spannedFirst, spannedLen, seenNumber, seenCol, placedNumber, placedSlot}
+use Rattle.abi_row_answers.specs.Row.{spannedNumber, spannedFirst, spannedLen, seenNumber, seenCol, placedNumber, placedSlot}
 use Rattle.abi_answers.specs.Direct as direct
 use Rattle.abi_answers.specs.Told.{updatedNumber, solvedNumber, placesOf}
 use Rattle.abi_calls.proofs.bracket_root as bracket-root

@@ -10,8 +10,8 @@ ghost use Rattle.matrix_doors.specs.Clearing as clearing;
 ghost use Rattle.matrix_doors.specs.Multiplying as multiplying;
 ghost use Rattle.matrix_doors.specs.Pinning as pinning;
 ghost use Rattle.matrix_doors.specs.PinningMarked as pinningmarked;
-ghost use Rattle.matrix_doors.specs.Building as building;
-ghost use Rattle.matrix_doors.specs.FromPairs as frompairs;
+ghost use Rattle.matrix_building.specs.Building as building;
+ghost use Rattle.matrix_building.specs.FromPairs as frompairs;
 ghost use Rattle.abi_answers.specs.Numbers.{builtNumber, ranNumber, foundNumber, foundSlot, Numbered};
 
 #[no_mangle]

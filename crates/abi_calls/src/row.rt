@@ -1,15 +1,15 @@
 // One row, shown: what a caller in C has in place of `for_each_block_of_row`, and a slot found without a test of the pattern. Each answers
 // the refusal's number, or 0; acceptance writes the lent place, and a refusal leaves it.
-use abi_answers::row::placed_number;
-use abi_answers::row::placed_slot;
-use abi_answers::row::seen_col;
-use abi_answers::row::seen_number;
-use abi_answers::row::spanned_first;
-use abi_answers::row::spanned_len;
-use abi_answers::row::spanned_number;
+use abi_row_answers::row::placed_number;
+use abi_row_answers::row::placed_slot;
+use abi_row_answers::row::seen_col;
+use abi_row_answers::row::seen_number;
+use abi_row_answers::row::spanned_first;
+use abi_row_answers::row::spanned_len;
+use abi_row_answers::row::spanned_number;
 ghost use Rattle.matrix_row_view.specs.Showing as showing;
 ghost use Rattle.abi_answers.specs.Numbers.{Told};
-ghost use Rattle.abi_answers.specs.Row.{spannedNumber, spannedFirst, spannedLen, seenNumber, seenCol, placedNumber, placedSlot};
+ghost use Rattle.abi_row_answers.specs.Row.{spannedNumber, spannedFirst, spannedLen, seenNumber, seenCol, placedNumber, placedSlot};
 
 // The slot of the row's first block.
 #[no_mangle]

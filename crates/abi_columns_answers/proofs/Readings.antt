@@ -10,7 +10,7 @@ use Rattle.columns_make.specs.declared.Computed.{Computed}
 use Rattle.columns_make.specs.declared.Computed.the-variants as computed
 use Rattle.columns_make.specs.declared.Reckoned.{Reckoned}
 use Rattle.columns_combine.specs.declared.Combined.the-variants as combined
-use Rattle.columns_combine.specs.declared.ParticleBlock.the-variants as block
+use Rattle.columns_block.specs.declared.ParticleBlock.the-variants as block
 use Rattle.abi_step_answers.specs.Counts.{countsOf}
 use Rattle.abi_columns_answers.specs.Loads.{loadedAfter}
 use Rattle.abi_columns_answers.specs.Computes.{Numbers, numbers, numbersOf}

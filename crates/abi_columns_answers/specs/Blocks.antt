@@ -6,8 +6,8 @@ use lib.ListN.{getD}
 use lib.Ieee.{Float}
 use Rattle.law.specs.Said.{Said, refused, carries, refusalOf}
 use Rattle.plane.specs.Plane.{zero32}
-use Rattle.columns_combine.specs.Said.{blockSaid}
-use Rattle.columns_combine.specs.declared.ParticleBlock.{ParticleBlock}
+use Rattle.columns_block.specs.Said.{blockSaid}
+use Rattle.columns_block.specs.declared.ParticleBlock.{ParticleBlock}
 use Rattle.abi_answers.specs.Telling.{howBy}
 
 abbrev pub blockNumber : ParticleBlock → ℕ

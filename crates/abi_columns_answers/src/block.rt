@@ -1,7 +1,7 @@
 // The answer of a particle's block, which case it is, and its four numbers: 0, or 7 where the particle isn't loaded.
-use columns_combine::ParticleBlock;
+use columns_block::ParticleBlock;
 ghost use mathlib.Core.Path.{_≡_};
-ghost use Rattle.columns_combine.specs.Said.{blockSaid};
+ghost use Rattle.columns_block.specs.Said.{blockSaid};
 ghost use Rattle.abi_answers.specs.Telling.{howBy};
 ghost use Rattle.abi_columns_answers.specs.Blocks.{blockNumber, fourBy};
 

@@ -5,7 +5,7 @@ use Rattle.columns_table.specs.Clearing as clearing
 use Rattle.columns_table.specs.Loading as loading
 use Rattle.columns_make.specs.Making as making
 use Rattle.columns_combine.specs.Combining as combining
-use Rattle.columns_combine.specs.Blocking as blocking
+use Rattle.columns_block.specs.Blocking as blocking
 use Rattle.columns_doors.proofs.Outcome.{loaded, blocked}
 use Rattle.abi_answers.specs.Numbers.{of-told}
 use Rattle.abi_columns_answers.specs.Loads as loads

@@ -3,7 +3,7 @@
 use abi_columns_answers::block;
 use abi_columns_answers::combined;
 ghost use Rattle.columns_combine.specs.Combining as combining;
-ghost use Rattle.columns_combine.specs.Blocking as blocking;
+ghost use Rattle.columns_block.specs.Blocking as blocking;
 ghost use Rattle.abi_answers.specs.Numbers.{Told};
 ghost use Rattle.abi_columns_answers.specs.Combines.{combinedNumber, gained, gainedOf};
 ghost use Rattle.abi_columns_answers.specs.Blocks.{blockNumber, shown, shownOf};

@@ -5,7 +5,7 @@ use abi_columns_answers::computed;
 use abi_step_answers::counts;
 ghost use Rattle.columns_make.specs.Making as making;
 ghost use Rattle.columns_combine.specs.Combining as combining;
-ghost use Rattle.columns_combine.specs.Blocking as blocking;
+ghost use Rattle.columns_block.specs.Blocking as blocking;
 ghost use Rattle.abi_step_answers.specs.Counts.{tallyOf};
 
 #[no_mangle]
@@ -124,7 +124,7 @@ pub extern "C" fn inside_particle_block(
 )
     requires { ⌜ blocking.Ready (blocking.given n (now pinned) loaded (now «column_of») (now columns) particle (now out)) ⌝ }
 {
-    let b = columns_combine::block::block(n, pinned, loaded, column_of, columns, particle, out);
+    let b = columns_block::block::block(n, pinned, loaded, column_of, columns, particle, out);
     *how = block::block_how(b, *how);
     *block = block::block_after(b, *block);
 }

@@ -8,7 +8,7 @@ ghost use Rattle.law.specs.Limit.{particles};
 ghost use Rattle.matrix_shape.specs.Rows.{at, Held, Rows, Pattern};
 ghost use Rattle.matrix_shape.specs.Index.{Line};
 ghost use Rattle.matrix_build.specs.Build.{Ready};
-ghost use Rattle.matrix_values.specs.Marked.{Reach};
+ghost use Rattle.matrix_pinned.specs.Marked.{Reach};
 ghost use Rattle.plan_make.specs.Plan.{four};
 ghost use Rattle.plan_make.specs.Parts.{five, Ground, Room, Desk};
 ghost use Rattle.gradient_definition.specs.Vectors.{Matrix};
@@ -78,7 +78,7 @@ pub extern "C" fn inside_make_dirichlet(
     requires { ⌜ row < n ⌝ }
     requires { ⌜ 4 * at (now «row_offsets») n ≤ length (now blocks) ⌝ }
 {
-    matrix_values::pinned::make_dirichlet(n, row_offsets, cols, diagonal, row, blocks)
+    matrix_pinned::pinned::make_dirichlet(n, row_offsets, cols, diagonal, row, blocks)
 }
 
 #[no_mangle]
@@ -92,7 +92,7 @@ pub extern "C" fn inside_make_dirichlet_marked(
 )
     requires { ⌜ Reach n (now «row_offsets») (now cols) (now diagonal) (now marks) (now blocks) ⌝ }
 {
-    matrix_values::marked::make_dirichlet_marked(n, row_offsets, cols, diagonal, marks, blocks)
+    matrix_pinned::marked::make_dirichlet_marked(n, row_offsets, cols, diagonal, marks, blocks)
 }
 
 #[no_mangle]

@@ -5,7 +5,7 @@ use mathlib.Core.List.{List}
 use Rattle.law.specs.Promise.{by}
 use Rattle.law.specs.One.{OneOutcome, plainly, past, of-parts}
 use Rattle.bench_text.specs.Nine.{numberBy, outcomeBy}
-use Rattle.bench_desk.specs.Answering.{Out, left, refusals, work, refuse, answering, givenBy}
+use Rattle.bench_answer.specs.Answering.{Out, left, refusals, work, refuse, answering, givenBy}
 use Rattle.bench_desk.proofs.answer as answer
 
 -- what it comes to is said of its answer, for the work as for each refusal

@@ -1,13 +1,8 @@
 // The bench program's answer to a text. THE DOOR `answer` refuses by the text's own number, or writes the lines of its plan.
-ghost use Rattle.bench_desk.specs.Answering.{left, Answers};
+use bench_answer::Answered;
+ghost use Rattle.bench_answer.specs.Answering.{left, Answers};
 
 mod session;
-
-pub enum Answered {
-    Refused(u8),
-    // How many bytes were written.
-    Done(usize),
-}
 
 // The lists are here, each as long as the limits ask, and nothing else.
 pub fn answer(text: &[u8], out: &mut [u8]) -> Answered

@@ -1,5 +1,5 @@
 // From a text over its pairs to the lines of their plan. Nothing is written before nothing is refused.
-use crate::Answered;
+use bench_answer::Answered;
 use bench_plan::inner::Drafted;
 use bench_text::inner::Input;
 ghost use mathlib.Core.Path.{_≡_};
@@ -9,7 +9,7 @@ ghost use Rattle.law.specs.Limit.{particles};
 ghost use Rattle.law.specs.Promise.{Promise};
 ghost use Rattle.bench_plan.specs.Built.{Counted, Sheet};
 ghost use Rattle.bench_plan.specs.Read.{numbersRoom};
-ghost use Rattle.bench_desk.specs.Answering.{given, left, answering, Answers};
+ghost use Rattle.bench_answer.specs.Answering.{given, left, answering, Answers};
 
 // Room for the lines of n particles, ten digits to a number, is asked for before the pairs are looked at.
 fn answer_pairs(

@@ -13,8 +13,8 @@ use Rattle.matrix_shape.specs.Made.{startOf, startsOf, slotsOf, begins, length-
 use Rattle.matrix_shape.specs.Rows.{at, Pattern}
 use Rattle.matrix_build.specs.Build.{roomOf, workOf, builtOf}
 use Rattle.matrix_pairs.specs.Pairs.{pairOkAt, storedBy, built-formed}
-use Rattle.matrix_doors.specs.Building as building
-use Rattle.matrix_doors.specs.declared.Built.the-variants.{Done}
+use Rattle.matrix_building.specs.Building as building
+use Rattle.matrix_building.specs.declared.Built.the-variants.{Done}
 use Rattle.bench_plan.specs.Outcome.{startsBy, colsBy}
 
 -- counts within the limits, and that many pairs

@@ -79,7 +79,7 @@ pub fn from_pairs(
     if !matrix_pairs::given::pairs_ok(n, count, pairs) {
         return Drafted::Refused(law::refusal::OUT_OF_RANGE);
     }
-    matrix_doors::inner::build(n, count, pairs, row_offsets, cols, diagonal, work);
+    matrix_building::inner::build(n, count, pairs, row_offsets, cols, diagonal, work);
     let len = from_pattern(n, row_offsets, cols, diagonal, order, first);
     if law::ENVELOPE < len {
         return Drafted::Refused(law::refusal::LONG_ENVELOPE);

@@ -10,11 +10,11 @@ use Rattle.law.specs.Put.{Written}
 use Rattle.bench_text.specs.Text.{described}
 use Rattle.bench_text.specs.Buffer.{Buffered, ReadFrom, decides}
 use Rattle.bench_print.specs.Lines.{refusedText, linesRoom}
-use Rattle.bench_desk.specs.Answer.{answerOf}
-use Rattle.bench_desk.specs.Answering.{left, Answers}
-use Rattle.bench_desk.specs.Printed.{to-print, printed}
-use Rattle.bench_desk.specs.declared.Answered.{Answered}
-use Rattle.bench_desk.specs.declared.Answered.the-variants.{Refused, Done}
+use Rattle.bench_answer.specs.Answer.{answerOf}
+use Rattle.bench_answer.specs.Answering.{left, Answers}
+use Rattle.bench_answer.specs.Printed.{to-print, printed}
+use Rattle.bench_answer.specs.declared.Answered.{Answered}
+use Rattle.bench_answer.specs.declared.Answered.the-variants.{Refused, Done}
 
 -- r bytes at the front of `new` are the whole output. The last two fields are what `&new[..r]` asks
 pub record Replies (n : ℕ) (buffer old new : List ℕ) (r : ℕ) : Type 0 where

@@ -1,5 +1,5 @@
 // What the bench programs do: a file descriptor's text in, the answer out.
-use bench_desk::Answered;
+use bench_answer::Answered;
 ghost use Prim.Native.Nat.{_≤_};
 ghost use lib.ListN.{length};
 ghost use Rattle.law.specs.Limit.{particles};

@@ -8,7 +8,7 @@ use Rattle.plan_make.specs.Plan.{planOf}
 use Rattle.bench_text.specs.Text.{particleCount, pairCount, pairNumbers}
 use Rattle.bench_print.specs.Lines.{planText, refusedText}
 use Rattle.bench_plan.specs.Outcome.{startsBy, colsBy, orderBy, lengthBy, numberFor}
-use Rattle.bench_desk.specs.Answer.{answerOf, answer-by}
+use Rattle.bench_answer.specs.Answer.{answerOf, answer-by}
 use Rattle.bench_picture.specs.Pixels.{Scene, scene, pictureOf}
 
 -- the pattern of n particles and the first count pairs, and its plan

@@ -2,4 +2,3 @@ pub mod Summed
 pub mod Readable
 pub mod Said
 pub mod Combining
-pub mod Blocking

@@ -1,7 +1,6 @@
-// A response combined from the columns, and a particle's own block (rules, module 6), soft_fem_system_response.rs's response_from_columns and
-// particle_block_from_columns: the answers, the refusals and the work. The doors stand in `columns_doors`.
-pub mod block;
-mod column;
+// A response combined from the columns (rules, module 6), soft_fem_system_response.rs's response_from_columns: the answer, the refusals and the work; and
+// one axis of a column, with the room that it needs, for a particle's own block too. The door stands in `columns_doors`.
+pub mod column;
 pub mod combine;
 pub mod refuse;
 
@@ -11,16 +10,4 @@ pub enum Combined {
     NotLoaded,
     Nothing,
     Gain(f32),
-}
-
-// The block of a particle's own axis responses at the particle, symmetrised: column 0's two numbers, then column 1's.
-pub enum ParticleBlock {
-    Refused(u8),
-    NotLoaded,
-    Block {
-        c0x: f32,
-        c0y: f32,
-        c1x: f32,
-        c1y: f32,
-    },
 }

@@ -1,4 +1,4 @@
-// The numbers that a combination and a particle's block are refused by. Tests run in phases, so that none reads past a list's end.
+// The numbers that a combination is refused by. Tests run in phases, so that none reads past a list's end.
 use columns_table::table;
 use step_entries::entries;
 ghost use mathlib.Core.Path.{_≡_};
@@ -8,10 +8,9 @@ ghost use Rattle.law.specs.Limit.{particles};
 ghost use Rattle.law.specs.Room.{enough};
 ghost use Rattle.law.specs.Refusal.{verdict};
 ghost use Rattle.columns_combine.specs.Combining.{columnsRoom, given, refusals};
-ghost use Rattle.columns_combine.specs.Blocking as B;
 
 // Room for the table, for the columns and for `need` floats in out.
-fn room(
+pub fn room(
     n: usize,
     loaded: usize,
     column_of: &[u32],
@@ -55,37 +54,6 @@ pub fn combining(
         return law::refusal::SHORT_BUFFER;
     }
     if !entries::all_below(n, count, particles) {
-        return law::refusal::OUT_OF_RANGE;
-    }
-    if !table::table_ok(n, pinned, loaded, column_of) {
-        return law::refusal::BAD_PLAN;
-    }
-    0
-}
-
-pub fn blocking(
-    n: usize,
-    pinned: &[u8],
-    loaded: usize,
-    column_of: &[u32],
-    columns: &[f32],
-    particle: usize,
-    out: &[f32],
-) -> u8
-    ensures { λ r. ⌜
-        r ≡ verdict
-        (B.refusals (B.given n (now (pinned .entry)) loaded (now («column_of» .entry)) (now (columns .entry)) particle (now (out .entry)))) ⌝ }
-{
-    if law::PARTICLES < n {
-        return law::refusal::TOO_MANY_PARTICLES;
-    }
-    if pinned.len() < n {
-        return law::refusal::SHORT_BUFFER;
-    }
-    if !room(n, loaded, column_of, columns, 4 * n, out) {
-        return law::refusal::SHORT_BUFFER;
-    }
-    if n <= particle {
         return law::refusal::OUT_OF_RANGE;
     }
     if !table::table_ok(n, pinned, loaded, column_of) {

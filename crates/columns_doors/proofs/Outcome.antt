@@ -9,7 +9,7 @@ use Rattle.columns_table.specs.Clearing as clearing
 use Rattle.columns_table.specs.Loading as loading
 use Rattle.columns_make.specs.Making as making
 use Rattle.columns_combine.specs.Combining as combining
-use Rattle.columns_combine.specs.Blocking as blocking
+use Rattle.columns_block.specs.Blocking as blocking
 use Rattle.columns_doors.proofs.clear_columns as clear-columns
 use Rattle.columns_doors.proofs.load_particle as load-particle
 use Rattle.columns_doors.proofs.compute_columns as compute-columns

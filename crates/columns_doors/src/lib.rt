@@ -1,7 +1,7 @@
 // The columns of loaded particles (rules, module 6), soft_fem_system_response.rs's clear_columns, load_particle, compute_columns, response_from_columns
 // and particle_block_from_columns: THE DOORS. `compute_columns`, which counts, lends the tally: a thin function, a walk by hand over the covered call.
+use columns_block::ParticleBlock;
 use columns_combine::Combined;
-use columns_combine::ParticleBlock;
 use columns_make::Computed;
 use columns_table::Loaded;
 use step_tally::Tally;
@@ -10,7 +10,7 @@ ghost use Rattle.columns_table.specs.Clearing as clearing;
 ghost use Rattle.columns_table.specs.Loading as loading;
 ghost use Rattle.columns_make.specs.Making as making;
 ghost use Rattle.columns_combine.specs.Combining as combining;
-ghost use Rattle.columns_combine.specs.Blocking as blocking;
+ghost use Rattle.columns_block.specs.Blocking as blocking;
 
 // No particle is loaded.
 pub fn clear_columns(n: usize, column_of: &mut [u32]) -> Loaded
@@ -174,17 +174,9 @@ pub fn particle_block_from_columns(
         (blocking.given n (now (pinned .entry)) loaded (now («column_of» .entry)) (now (columns .entry)) particle (now (out .entry)))
         (blocking.left r (now (out .exit))) ⌝ }
 {
-    let no = columns_combine::refuse::blocking(
-        n,
-        pinned,
-        loaded,
-        column_of,
-        columns,
-        particle,
-        out,
-    );
+    let no = columns_block::refuse::blocking(n, pinned, loaded, column_of, columns, particle, out);
     if no != 0 {
         return ParticleBlock::Refused(no);
     }
-    columns_combine::block::block(n, pinned, loaded, column_of, columns, particle, out)
+    columns_block::block::block(n, pinned, loaded, column_of, columns, particle, out)
 }

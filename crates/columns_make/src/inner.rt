@@ -2,7 +2,7 @@
 use crate::Computed;
 use crate::Reckoned;
 use crate::front;
-use crate::refuse;
+use columns_refusals::refuse;
 use step_tally::Asked;
 use step_tally::Kind;
 use step_tally::Tally;

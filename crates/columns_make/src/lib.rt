@@ -4,7 +4,6 @@ use step_tally::Tally;
 
 pub mod front;
 pub mod inner;
-pub mod refuse;
 
 // How many of the solves ended in each way.
 pub enum Computed {

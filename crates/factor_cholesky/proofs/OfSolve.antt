@@ -22,8 +22,8 @@ use Rattle.matrix_shape.specs.Rows.{at}
 use Rattle.plan_fits.specs.Fits.{PlanRules, planned-is}
 use Rattle.plan_fits.specs.Cells.{look}
 use Rattle.factor_load.specs.Permuted.{Matrix}
-use Rattle.factor_substitution.specs.Passes.{forwardBy, forwardOf}
-use Rattle.factor_substitution.specs.PassMeaning.{summed, forward-long, forward-is, lessOf, owed, backward-is}
+use Rattle.factor_passes.specs.Passes.{forwardBy, forwardOf}
+use Rattle.factor_passes.specs.PassMeaning.{summed, forward-long, forward-is, lessOf, owed, backward-is}
 use Rattle.factor_substitution.specs.Solve.{permuted, placedOf, solveOf}
 use Rattle.factor_substitution.specs.Meaning.{solve-gives}
 use Rattle.factor_doors.specs.Solving.{In, Out, valuesRoom, refusals, work, door}

@@ -24,7 +24,7 @@ use Rattle.factor_row.specs.Row.{later, reducedOf, entryOf, entryStep, leftOf, 
 use Rattle.factor_make.specs.Factor.{closeOf, rowOf, rowStep, factorOf}
 use Rattle.factor_make.specs.Matrix.{matrixOf}
 use Rattle.factor_make.specs.Entry.{Finished, Ended}
-use Rattle.factor_substitution.specs.Passes.{rowSum, forwardBy, forwardStep, forwardOf, takenOf, backStep, backwardOf}
+use Rattle.factor_passes.specs.Passes.{rowSum, forwardBy, forwardStep, forwardOf, takenOf, backStep, backwardOf}
 use Rattle.factor_substitution.specs.Solve.{permuted as parted, placedOf, solveOf}
 use Rattle.factor_doors.specs.Factorizing as F
 use Rattle.factor_doors.specs.declared.Factored.the-variants as factored

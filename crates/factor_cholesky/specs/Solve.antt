@@ -16,8 +16,8 @@ use Rattle.plan_fits.specs.Fits.{planRulesOk}
 use Rattle.plan_fits.specs.Given.{planRoom, factorLength}
 use Rattle.plan_fits.specs.Cells.{look}
 use Rattle.factor_load.specs.Permuted.{Matrix}
-use Rattle.factor_substitution.specs.Passes.{forwardBy}
-use Rattle.factor_substitution.specs.PassMeaning.{owed}
+use Rattle.factor_passes.specs.Passes.{forwardBy}
+use Rattle.factor_passes.specs.PassMeaning.{owed}
 use Rattle.factor_doors.specs.Solving.{In, Out, valuesRoom, door}
 use Rattle.factor_doors.specs.declared.Solved.the-variants.{Refused, Done}
 

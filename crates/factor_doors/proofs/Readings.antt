@@ -13,7 +13,7 @@ use Rattle.law.specs.Said.{Said, refused, carries}
 use Rattle.plane.specs.Plane.{zero32, one32}
 use Rattle.plan_fits.specs.Fits.{backOk, undoOk, twinsOk, firstsOk, growOk, startsOk, planRulesOk}
 use Rattle.plan_fits.specs.Given.{planRoom, factorLength}
-use Rattle.factor_substitution.specs.Passes.{rowSum, forwardBy, forwardStep, forwardOf, takenOf, backStep, backwardOf}
+use Rattle.factor_passes.specs.Passes.{rowSum, forwardBy, forwardStep, forwardOf, takenOf, backStep, backwardOf}
 use Rattle.factor_substitution.specs.Solve.{permuted, placedOf, solveOf}
 use Rattle.factor_doors.specs.declared.Solved.the-variants.{Refused, Done}
 use Rattle.factor_doors.specs.Solving.{In, Out, given, left, valuesRoom, refusals, work, door}

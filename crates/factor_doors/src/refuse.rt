@@ -68,7 +68,7 @@ pub fn factorizing(
     if !matrix_test::given::pattern_formed(n, row_offsets, cols, diagonal) {
         return law::refusal::BAD_PATTERN;
     }
-    if !plan_test::inside::fits(
+    if !plan_inside::inside::fits(
         n,
         row_offsets,
         cols,

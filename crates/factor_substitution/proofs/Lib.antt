@@ -1,2 +1,1 @@
-mod PassReadings
 mod Readings

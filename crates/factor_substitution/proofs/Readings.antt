@@ -6,7 +6,7 @@ use Rattle.law.specs.Loop.{fold, over}
 use Rattle.law.specs.Gather.{gather}
 use Rattle.matrix_shape.specs.Rows.{at}
 use Rattle.plane.specs.Plane.{zero32, one32}
-use Rattle.factor_substitution.specs.Passes.{rowSum, forwardBy, forwardStep, forwardOf, takenOf, backStep, backwardOf}
+use Rattle.factor_passes.specs.Passes.{rowSum, forwardBy, forwardStep, forwardOf, takenOf, backStep, backwardOf}
 use Rattle.factor_substitution.specs.Solve.{permuted, placedOf, solveOf, left, solvedOf}
 
 abbrev two : Float

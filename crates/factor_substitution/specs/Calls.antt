@@ -9,7 +9,7 @@ use Rattle.law.specs.Mix.{mix, mix-whole}
 use Rattle.plane.specs.Plane.{zeroOf}
 use Rattle.plane.specs.Lent.{vectorAt}
 use Rattle.plan_fits.specs.Cells.{look}
-use Rattle.factor_substitution.specs.Passes.{forwardOf, backwardOf}
+use Rattle.factor_passes.specs.Passes.{forwardOf, backwardOf}
 use Rattle.factor_substitution.specs.Solve.{permuted, placedOf, solveOf, left, solvedOf}
 
 module _ (n : ℕ) (o p f s : ℕ → ℕ) (v b : List Float) where

@@ -7,7 +7,7 @@ use Rattle.law.specs.Gather.{gather}
 use Rattle.plane.specs.Plane.{zeroOf}
 use Rattle.plane.specs.Lent.{vectorAt}
 use Rattle.plan_fits.specs.Cells.{look}
-use Rattle.factor_substitution.specs.Passes.{forwardOf, backwardOf}
+use Rattle.factor_passes.specs.Passes.{forwardOf, backwardOf}
 
 -- n parts, part i being v's part p i
 unfoldable pub permuted : ℕ → (ℕ → ℕ) → List Float → List Float

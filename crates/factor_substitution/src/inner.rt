@@ -41,8 +41,8 @@ pub fn solve(
 {
     let m = 2 * n;
     gather(n, perm, b, scratch);
-    crate::passes::forward(m, first, row_start, values, scratch);
-    crate::passes::backward(m, first, row_start, values, scratch);
+    factor_passes::passes::forward(m, first, row_start, values, scratch);
+    factor_passes::passes::backward(m, first, row_start, values, scratch);
     gather(n, inv_perm, scratch, x);
     vectors::inner::clear(n, scratch);
 }

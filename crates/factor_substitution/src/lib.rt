@@ -1,3 +1,2 @@
-// The two passes over the factor's rows, and the solve with them.
+// The solve with the factor: the two passes over its rows, by particles.
 pub mod inner;
-pub mod passes;

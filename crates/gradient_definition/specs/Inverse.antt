@@ -7,7 +7,7 @@ use lib.ListN.{length, getD}
 use lib.Ieee.{Float}
 use Rattle.plane.specs.Plane.{Block, inverseOf, blockFinite}
 use Rattle.plane.specs.Lent.{blockAt, flat}
-use Rattle.matrix_values.specs.Dirichlet.{identity}
+use Rattle.matrix_values.specs.Blocks.{identity}
 
 unfoldable pub orIdentity : Block → Block
 orIdentity m = cond (blockFinite m) m identity

@@ -7,9 +7,9 @@ use lib.ListN.{length, drop, replicate, length-replicate}
 use Rattle.law.specs.Store.{written, written-front, drop-replicate}
 use Rattle.matrix_shape.specs.Made.{startOf, colsOf, length-cols}
 use Rattle.matrix_pairs.specs.Pairs.{storedBy, start-bound}
+use Rattle.matrix_lists.specs.Ways.{Given}
+use Rattle.matrix_lists.specs.Turned.{AllTurned}
 use Rattle.matrix_build.specs.Build.{roomOf, Ready, made, builtOf}
-use Rattle.matrix_build.specs.Ways.{Given}
-use Rattle.matrix_build.specs.Turned.{AllTurned}
 use Rattle.matrix_build.specs.Filled.{Unfilled, AllFilled}
 
 module _ (n count : ℕ) (pairs starts cols diagonal work : List ℕ) (g : Ready n count pairs starts cols diagonal work) where

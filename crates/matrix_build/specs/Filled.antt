@@ -13,9 +13,9 @@ use Rattle.law.specs.Keep.{onlyIf, keep, rank, keep-in, keep-same}
 use Rattle.law.specs.Store.{written, written-append, written-one}
 use Rattle.matrix_shape.specs.Made.{rowOf, startOf, startsOf, colsOf, slotsOf}
 use Rattle.matrix_pairs.specs.Pairs.{joined, storedBy, own}
-use Rattle.matrix_build.specs.Ways.{apart}
-use Rattle.matrix_build.specs.Chain.{Chain}
-use Rattle.matrix_build.specs.Turned.{AllTurned}
+use Rattle.matrix_lists.specs.Ways.{apart}
+use Rattle.matrix_lists.specs.Chain.{Chain}
+use Rattle.matrix_lists.specs.Turned.{AllTurned}
 use Rattle.matrix_build.specs.Swept.{Apart}
 
 -- what storing row r needs: room, and the row's chain, whose name stands where the diagonal's slot comes to stand

@@ -1,7 +1,3 @@
-pub mod Ways
-pub mod Filed
-pub mod Chain
-pub mod Turned
 pub mod Swept
 pub mod Filled
 pub mod Build

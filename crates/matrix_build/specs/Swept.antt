@@ -9,8 +9,8 @@ use Rattle.law.specs.Truth.{untrue}
 use Rattle.law.specs.Gather.{gather-none}
 use Rattle.law.specs.Keep.{onlyIf, keep, keep-in, keep-skip, keep-room}
 use Rattle.law.specs.Store.{written, written-one, write-none}
-use Rattle.matrix_build.specs.Ways.{apart}
-use Rattle.matrix_build.specs.Chain.{frontOf, None, Chain, chain-front, chain-link, chain-raise, chain-lower}
+use Rattle.matrix_lists.specs.Ways.{apart}
+use Rattle.matrix_lists.specs.Chain.{frontOf, None, Chain, chain-front, chain-link, chain-raise, chain-lower}
 
 -- v is joined with r, and isn't r
 abbrev pub Apart : ℕ → List ℕ → ℕ → ℕ → Type 0

@@ -3,8 +3,8 @@ ghost use Prim.Native.Nat.{_+_, _*_, _≤_};
 ghost use lib.ListN.{length};
 ghost use Rattle.law.specs.Keep.{keep};
 ghost use Rattle.matrix_pairs.specs.Pairs.{storedBy};
-ghost use Rattle.matrix_build.specs.Ways.{Given, apart};
-ghost use Rattle.matrix_build.specs.Chain.{Chain};
+ghost use Rattle.matrix_lists.specs.Ways.{Given, apart};
+ghost use Rattle.matrix_lists.specs.Chain.{Chain};
 ghost use Rattle.matrix_build.specs.Swept.{Apart, Swept};
 ghost use Rattle.matrix_build.specs.Filled.{Filling, Filled, Unfilled, AllFilled};
 
@@ -35,12 +35,12 @@ fn sweep(
 {
     let mut rest = list;
     let mut slot = at;
-    let mut c = crate::lists::front(n, pairs, rest);
+    let mut c = matrix_lists::lists::front(n, pairs, rest);
     while c < to {
         cols[slot] = c as u32;
         slot += 1;
         rest = law::wide(links[rest - 1]);
-        c = crate::lists::front(n, pairs, rest);
+        c = matrix_lists::lists::front(n, pairs, rest);
     }
     Rest {
         list: rest,

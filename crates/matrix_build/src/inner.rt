@@ -16,7 +16,7 @@ pub fn build(
         made k (now («row_offsets» .exit)) (now (cols .exit)) (now (diagonal .exit)) (now (work .exit)) ≡ builtOf n count
         (now (pairs .entry)) ⌝ }
 {
-    crate::rows::list_rows(n, count, pairs, row_offsets, cols, diagonal, work);
+    matrix_lists::rows::list_rows(n, count, pairs, row_offsets, cols, diagonal, work);
     law::lists::clear(cols);
     let k = crate::filling::fill_rows(n, count, pairs, work, row_offsets, cols, diagonal);
     law::lists::clear(work);

@@ -1,7 +1,3 @@
-// The pattern from its pairs: each row's list of them, the rows filled from the lists, and the whole.
-mod filing;
+// The pattern from its pairs: the rows filled from their lists, and the whole.
 pub mod filling;
 pub mod inner;
-pub mod lists;
-pub mod rows;
-mod turning;

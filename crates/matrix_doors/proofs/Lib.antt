@@ -1,4 +1,3 @@
-mod Readings
 pub mod Outcome
 mod SaidReadings
 mod MarkedReadings

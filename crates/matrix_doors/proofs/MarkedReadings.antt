@@ -14,8 +14,9 @@ use Rattle.law.specs.Promise.{outcome}
 use Rattle.plane.specs.Lent.{flat}
 use Rattle.matrix_shape.specs.Formed.{slotOk, homeOk, rowOk, stored, mirrorsOk, startsOk, wellFormed}
 use Rattle.matrix_shape.specs.Given.{patternRoom, formed}
-use Rattle.matrix_values.specs.Dirichlet.{identity, zeroBlock, pinned, pinnedAt}
-use Rattle.matrix_values.specs.Marked.{pinStep, pinnedMarked}
+use Rattle.matrix_values.specs.Blocks.{zeroBlock, identity}
+use Rattle.matrix_pinned.specs.Dirichlet.{pinned, pinnedAt}
+use Rattle.matrix_pinned.specs.Marked.{pinStep, pinnedMarked}
 use Rattle.matrix_doors.specs.declared.Ran.the-variants.{Refused, Done}
 use Rattle.matrix_doors.specs.PinningMarked.{In, given, left, markedRoom, refusals, door}
 

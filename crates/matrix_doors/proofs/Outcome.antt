@@ -1,8 +1,8 @@
 -- ONE OUTCOME of each public call, by the contract that its own theorem cites.
 use mathlib.Core.Path.{refl}
 use Rattle.law.specs.One.{OneOutcome, plainly, past, of-door}
-use Rattle.matrix_doors.specs.FromPairs as frompairs
-use Rattle.matrix_doors.specs.Building as building
+use Rattle.matrix_building.specs.FromPairs as frompairs
+use Rattle.matrix_building.specs.Building as building
 use Rattle.matrix_doors.specs.Indexing as indexing
 use Rattle.matrix_doors.specs.Clearing as clearing
 use Rattle.matrix_doors.specs.Multiplying as multiplying

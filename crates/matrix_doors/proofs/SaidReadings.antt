@@ -7,7 +7,6 @@ use lib.Ieee.{Float, nan}
 use Rattle.law.specs.Loop.{fold, over}
 use Rattle.law.specs.Every.{every, some}
 use Rattle.law.specs.Find.{seek, find}
-use Rattle.law.specs.Gather.{gather, upTo}
 use Rattle.law.specs.Room.{enough}
 use Rattle.law.specs.Refusal.{verdict}
 use Rattle.law.specs.Promise.{outcome}
@@ -15,37 +14,21 @@ use Rattle.law.specs.Said.{refused, carries}
 use Rattle.matrix_shape.specs.Formed.{slotOk, homeOk, rowOk, stored, mirrorsOk, startsOk, wellFormed}
 use Rattle.matrix_shape.specs.Given.{patternRoom, blocksRoom, formed}
 use Rattle.matrix_shape.specs.Index.{indexOf}
-use Rattle.matrix_shape.specs.Made.{rowOf, colsOf, startOf, slotOf, startsOf, slotsOf}
-use Rattle.matrix_pairs.specs.Pairs.{joined, storedBy}
-use Rattle.matrix_build.specs.Build.{builtOf}
-use Rattle.matrix_doors.specs.Building as building
-use Rattle.matrix_doors.specs.FromPairs as frompairs
 use Rattle.matrix_doors.specs.Indexing as indexing
 use Rattle.matrix_doors.specs.Clearing as clearing
 use Rattle.matrix_doors.specs.Multiplying as multiplying
 use Rattle.matrix_doors.specs.Pinning as pinning
 use Rattle.matrix_doors.specs.PinningMarked as pinningmarked
 
-abbrev zeros : ℕ → List ℕ
-zeros k = replicate k 0
-
 abbrev floats : ℕ → List Float
 floats k = replicate k nan
-
--- so many particles and no pair, in lists for two
-alone : ℕ → building.In
-alone n = building.given n 0 [] (zeros 3) (zeros 2) (zeros 2) []
 
 -- two particles that are joined, and a row of theirs
 asked : ℕ → indexing.In
 asked row = indexing.given 2 (0 ∷ 2 ∷ 4 ∷ []) (0 ∷ 1 ∷ 0 ∷ 1 ∷ []) (0 ∷ 3 ∷ []) row
 
 record Readings : Type 0 where
-  -- a pattern says its number of blocks, a slot its place, and what only works that it is done; each refusal its number
-  built : outcome building.door (alone 2) .said ≡ carries 0 (2 ∷ []) []
-  not-built : outcome building.door (alone 1025) .said ≡ refused 1
-  filled : outcome frompairs.door (frompairs.given (alone 2) (floats 8)) .pattern .said ≡ carries 0 (2 ∷ []) []
-  not-filled : outcome frompairs.door (frompairs.given (alone 2) (floats 7)) .pattern .said ≡ refused 3
+  -- a slot says its place, and what only works that it is done; each refusal its number
   slot : outcome (indexing.blockDoor 0) (asked 1) .said ≡ carries 0 (2 ∷ []) []
   no-slot : outcome (indexing.blockDoor 0) (asked 2) .said ≡ refused 4
   diagonal : outcome indexing.diagonalDoor (asked 1) .said ≡ carries 0 (3 ∷ []) []
@@ -60,15 +43,10 @@ record Readings : Type 0 where
   none-pinned : outcome pinningmarked.door (pinningmarked.given 1 (0 ∷ 1 ∷ []) (0 ∷ []) (0 ∷ []) [] (floats 4)) .said ≡ refused 3
 
 readings : Readings
-unfolding alone asked outcome building.refusals building.work building.listsRoom frompairs.refusals frompairs.work frompairs.valuesRoom
-    indexing.refusals clearing.refusals multiplying.refusals multiplying.valuesRoom pinning.refusals pinningmarked.refusals pinningmarked.markedRoom verdict enough patternRoom blocksRoom formed
-    wellFormed startsOk rowOk slotOk homeOk mirrorsOk stored indexOf find seek every some over fold builtOf storedBy joined startsOf slotsOf colsOf
-    startOf slotOf rowOf gather upTo
+unfolding asked outcome indexing.refusals clearing.refusals multiplying.refusals multiplying.valuesRoom pinning.refusals pinningmarked.refusals
+    pinningmarked.markedRoom verdict enough patternRoom blocksRoom formed wellFormed startsOk rowOk slotOk homeOk mirrorsOk stored indexOf find seek
+    every some over fold
 readings = record {
-  built = refl;
-  not-built = refl;
-  filled = refl;
-  not-filled = refl;
   slot = refl;
   no-slot = refl;
   diagonal = refl;

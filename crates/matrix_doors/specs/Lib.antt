@@ -4,5 +4,3 @@ pub mod Clearing
 pub mod Multiplying
 pub mod Pinning
 pub mod PinningMarked
-pub mod Building
-pub mod FromPairs

@@ -16,8 +16,8 @@ use Rattle.law.specs.Promise.{Door}
 use Rattle.law.specs.Said.{Said}
 use Rattle.matrix_shape.specs.Rows.{at}
 use Rattle.matrix_shape.specs.Given.{patternRoom, formed, pattern}
-use Rattle.matrix_values.specs.Marked.{pinnedMarked, Marked, Pins, Reach}
-use Rattle.matrix_values.specs.AnyOrder.{marked-pins}
+use Rattle.matrix_pinned.specs.Marked.{pinnedMarked, Marked, Pins, Reach}
+use Rattle.matrix_pinned.specs.AnyOrder.{marked-pins}
 use Rattle.matrix_doors.specs.declared.Ran.{Ran}
 use Rattle.matrix_doors.specs.declared.Ran.the-variants.{Refused, Done}
 use Rattle.matrix_doors.specs.Said.{ranSaid}

@@ -1,16 +1,10 @@
--- WHAT THE BLOCK MATRIX'S CALLS SAY: a built pattern its number of blocks, an asked slot its place.
+-- WHAT THE BLOCK MATRIX'S CALLS SAY: an asked slot its place. What a built pattern says stands in `matrix_building`.
 use mathlib.Core.List.{[], _∷_}
 use Rattle.law.specs.Said.{Said, refused, carries}
-use Rattle.matrix_doors.specs.declared.Built.{Built}
-use Rattle.matrix_doors.specs.declared.Built.the-variants as built
 use Rattle.matrix_doors.specs.declared.Found.{Found}
 use Rattle.matrix_doors.specs.declared.Found.the-variants as found
 use Rattle.matrix_doors.specs.declared.Ran.{Ran}
 use Rattle.matrix_doors.specs.declared.Ran.the-variants as ran
-
-abbrev pub builtSaid : Built → Said
-builtSaid (built.Refused k) = refused k
-builtSaid (built.Done blocks) = carries 0 (blocks ∷ []) []
 
 abbrev pub foundSaid : Found → Said
 foundSaid (found.Refused k) = refused k

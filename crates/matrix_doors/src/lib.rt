@@ -1,23 +1,18 @@
 // Block matrices over lent slices, soft_fem_sparse.rs's BlockMatrix. THE DOORS: each tests all that it is handed,
 // refuses by number or does the work. A pattern is its row offsets, columns and diagonal slots; its last row
 // offset is the block count. Values are four floats to a block, vectors two floats to a particle.
+use matrix_building::Built;
 ghost use Rattle.law.specs.Promise.{Promise};
+ghost use Rattle.matrix_building.specs.Building as building;
+ghost use Rattle.matrix_building.specs.FromPairs as frompairs;
 ghost use Rattle.matrix_doors.specs.Indexing as indexing;
 ghost use Rattle.matrix_doors.specs.Clearing as clearing;
 ghost use Rattle.matrix_doors.specs.Multiplying as multiplying;
 ghost use Rattle.matrix_doors.specs.Pinning as pinning;
 ghost use Rattle.matrix_doors.specs.PinningMarked as pinningmarked;
-ghost use Rattle.matrix_doors.specs.Building as building;
-ghost use Rattle.matrix_doors.specs.FromPairs as frompairs;
 
 pub mod inner;
 pub mod refuse;
-
-pub enum Built {
-    Refused(u8),
-    // How many blocks there are.
-    Done(usize),
-}
 
 pub enum Found {
     Refused(u8),
@@ -47,11 +42,29 @@ pub fn from_pairs(
         (frompairs.left (building.left r (now («row_offsets» .exit)) (now (cols .exit)) (now (diagonal .exit)) (now (work .exit)))
         (now (blocks .exit))) ⌝ }
 {
-    let no = refuse::from_pairs(n, count, pairs, row_offsets, cols, diagonal, blocks, work);
+    let no = matrix_building::refuse::from_pairs(
+        n,
+        count,
+        pairs,
+        row_offsets,
+        cols,
+        diagonal,
+        blocks,
+        work,
+    );
     if no != 0 {
         return Built::Refused(no);
     }
-    let m = inner::build_with_values(n, count, pairs, row_offsets, cols, diagonal, blocks, work);
+    let m = matrix_building::inner::build_with_values(
+        n,
+        count,
+        pairs,
+        row_offsets,
+        cols,
+        diagonal,
+        blocks,
+        work,
+    );
     Built::Done(m)
 }
 
@@ -70,11 +83,11 @@ pub fn pattern_from_pairs(
         (building.given n count (now (pairs .entry)) (now («row_offsets» .entry)) (now (cols .entry)) (now (diagonal .entry)) (now (work .entry)))
         (building.left r (now («row_offsets» .exit)) (now (cols .exit)) (now (diagonal .exit)) (now (work .exit))) ⌝ }
 {
-    let no = refuse::building(n, count, pairs, row_offsets, cols, diagonal, work);
+    let no = matrix_building::refuse::building(n, count, pairs, row_offsets, cols, diagonal, work);
     if no != 0 {
         return Built::Refused(no);
     }
-    let m = inner::build(n, count, pairs, row_offsets, cols, diagonal, work);
+    let m = matrix_building::inner::build(n, count, pairs, row_offsets, cols, diagonal, work);
     Built::Done(m)
 }
 
@@ -182,7 +195,7 @@ pub fn make_dirichlet(
     if no != 0 {
         return Ran::Refused(no);
     }
-    matrix_values::pinned::make_dirichlet(n, row_offsets, cols, diagonal, row, blocks);
+    matrix_pinned::pinned::make_dirichlet(n, row_offsets, cols, diagonal, row, blocks);
     Ran::Done
 }
 
@@ -204,6 +217,6 @@ pub fn make_dirichlet_marked(
     if no != 0 {
         return Ran::Refused(no);
     }
-    matrix_values::marked::make_dirichlet_marked(n, row_offsets, cols, diagonal, marks, blocks);
+    matrix_pinned::marked::make_dirichlet_marked(n, row_offsets, cols, diagonal, marks, blocks);
     Ran::Done
 }

@@ -1,4 +1,2 @@
-mod Apart
-mod Lent
 mod Readings
 pub mod Outcome

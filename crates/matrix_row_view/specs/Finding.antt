@@ -12,7 +12,7 @@ use Rattle.matrix_shape.specs.Formed.{InRow, Stored}
 use Rattle.matrix_shape.specs.Rows.{at, Pattern}
 use Rattle.matrix_shape.specs.Index.{Strict, indexOf, index-is, index-none}
 use Rattle.matrix_shape.specs.Search.{searchOf, search-none, search-tells, search-misses}
-use Rattle.matrix_row_view.specs.declared.inner.Span.{Span}
+use Rattle.matrix_row.specs.declared.inner.Span.{Span}
 use Rattle.matrix_row_view.specs.Showing.{In, ownCols, slotOf, Ready}
 use Rattle.matrix_row_view.specs.Meaning.{start, end, Lies, row-lies, lies, nothing}
 

@@ -1,4 +1,3 @@
-pub mod Row
 pub mod Said
 pub mod Showing
 pub mod Meaning

@@ -16,9 +16,9 @@ use Rattle.law.specs.Refusal.{verdict}
 use Rattle.law.specs.Room.{enough-of}
 use Rattle.law.specs.Promise.{Door, outcome, accepts, zero-of}
 use Rattle.matrix_shape.specs.Rows.{at, Pattern, row-end}
-use Rattle.matrix_row_view.specs.declared.inner.Span.{Span}
+use Rattle.matrix_row.specs.declared.inner.Span.{Span}
+use Rattle.matrix_row.specs.Row.{none, spanOf, rowCols, colOr}
 use Rattle.matrix_row_view.specs.declared.Spanned.the-variants.{Slots}
-use Rattle.matrix_row_view.specs.Row.{none, spanOf, rowCols, colOr}
 use Rattle.matrix_row_view.specs.Showing.{In, given, ownStarts, ownCols, slotsOf, columnOf, refusals, rowsRoom, Ready, ready}
 use Rattle.matrix_row_view.specs.Showing.{spanDoor, columnDoor, slotDoor}
 

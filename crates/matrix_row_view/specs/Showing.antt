@@ -14,13 +14,14 @@ use Rattle.law.specs.Refusal.{Test, unless, Rising, verdict, all-pass}
 use Rattle.law.specs.Promise.{Door}
 use Rattle.law.specs.Said.{Said}
 use Rattle.matrix_shape.specs.Rows.{at}
+use Rattle.matrix_shape.specs.Search.{searchOf}
+use Rattle.matrix_row.specs.Row.{spanOf, rowFirst, rowCols, colOr}
 use Rattle.matrix_row_view.specs.declared.Spanned.{Spanned}
 use Rattle.matrix_row_view.specs.declared.Spanned.the-variants as span
 use Rattle.matrix_row_view.specs.declared.Seen.{Seen}
 use Rattle.matrix_row_view.specs.declared.Seen.the-variants as see
 use Rattle.matrix_row_view.specs.declared.Placed.{Placed}
 use Rattle.matrix_row_view.specs.declared.Placed.the-variants as place
-use Rattle.matrix_row_view.specs.Row.{rowFirst, rowCols, colOr, slotIn}
 use Rattle.matrix_row_view.specs.Said.{spannedSaid, seenSaid, placedSaid}
 
 -- what the calls are handed; row_col is handed a block's place in the row besides, row_slot its column
@@ -74,6 +75,10 @@ slotsOf i = span.Slots (rowFirst (ownStarts i) (ownCols i) (i .row)) (length (ro
 
 abbrev pub columnOf : In → ℕ → ℕ
 columnOf i j = colOr (rowCols (ownStarts i) (ownCols i) (i .row)) j
+
+-- the slot of the row's block with the column, by halves
+abbrev pub slotIn : List ℕ → List ℕ → ℕ → ℕ → ℕ
+slotIn starts cols r col = searchOf (at cols) (spanOf starts (length cols) r .from) (spanOf starts (length cols) r .to) col
 
 abbrev pub slotOf : In → ℕ → ℕ
 slotOf i col = slotIn (ownStarts i) (ownCols i) (i .row) col

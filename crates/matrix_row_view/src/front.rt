@@ -1,6 +1,6 @@
 // The pattern's own part of the lists is lent on to the view, so that a longer list's rest is never shown as a row.
 use crate::Spanned;
-use crate::inner;
+use matrix_row::inner;
 ghost use mathlib.Core.Path.{_≡_};
 ghost use Rattle.matrix_row_view.specs.Showing.{given, slotsOf, columnOf, slotOf, Ready};
 

@@ -4,7 +4,6 @@ ghost use Rattle.law.specs.Promise.{Promise};
 ghost use Rattle.matrix_row_view.specs.Showing as showing;
 
 pub mod front;
-pub mod inner;
 pub mod refuse;
 
 pub enum Spanned {

@@ -1,5 +1,5 @@
 // Whether a pattern is well formed: the row starts, and then rows and mirrors in one walk, which reads only what the row starts have shown to be there.
-use crate::rows;
+use matrix_walk::rows;
 ghost use mathlib.Core.Path.{_≡_};
 ghost use Prim.Native.Nat.{_≤_, _<_};
 ghost use lib.ListN.{length};
@@ -8,7 +8,7 @@ ghost use Rattle.law.specs.Limit.{particles};
 ghost use Rattle.matrix_shape.specs.Formed.{riseOk, startsOk, wellFormed};
 ghost use Rattle.matrix_shape.specs.Rows.{at, Held};
 ghost use Rattle.matrix_shape.specs.Phases.{Spread};
-ghost use Rattle.matrix_test.specs.Cursors.{walkOk};
+ghost use Rattle.matrix_walk.specs.Cursors.{walkOk};
 
 fn rises(n: usize, row_offsets: &[u32]) -> bool
     requires { ⌜ n < length (now «row_offsets») ⌝ }

@@ -1,4 +1,3 @@
-// The test of a pattern: its starts, then rows and mirrors in one walk; and the same of a pattern as a call is handed it.
+// The test of a pattern: its starts, then the walk over rows and mirrors; and the same of a pattern as a call is handed it.
 pub mod formed;
 pub mod given;
-pub mod rows;

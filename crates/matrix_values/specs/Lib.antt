@@ -1,5 +1,2 @@
 pub mod Product
-pub mod Dirichlet
-pub mod Mirrors
-pub mod Marked
-pub mod AnyOrder
+pub mod Blocks

@@ -7,7 +7,7 @@ ghost use Rattle.law.specs.Mix.{mix};
 ghost use Rattle.plane.specs.Lent.{flat};
 ghost use Rattle.matrix_shape.specs.Rows.{at, Rows};
 ghost use Rattle.matrix_values.specs.Product.{slotStep, rowSum, productAt, RowReach};
-ghost use Rattle.matrix_values.specs.Dirichlet.{zeroBlock};
+ghost use Rattle.matrix_values.specs.Blocks.{zeroBlock};
 
 // A row's sum and one slot more: its block times the vector's part that its column names.
 fn add_slot(cols: &[u32], blocks: &[f32], x: &[f32], k: usize, sum: Vector) -> Vector

@@ -1,4 +1,2 @@
-// A matrix's values: the product, all zero, a pinned row, and the marked rows pinned.
+// A matrix's values: the product, and all zero.
 pub mod inner;
-pub mod marked;
-pub mod pinned;

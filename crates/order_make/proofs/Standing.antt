@@ -22,7 +22,7 @@ use Rattle.order_definition.proofs.Placed.{placed-below, placed-few, placed-far
 use Rattle.order_definition.proofs.Rows.{adding, near}
 use Rattle.order_definition.proofs.Sorting.{length-sort}
 use Rattle.order_definition.proofs.Filling.{markAll-append, length-markAll}
-use Rattle.order_search.proofs.Looking.{keys-are}
+use Rattle.order_start.proofs.Looking.{keys-are}
 use Rattle.order_definition.proofs.Visiting.{in-below}
 
 -- ---- marks are what the list holds

@@ -1,6 +1,6 @@
 // The order itself, over a pattern that its caller knows to be well formed and lists of just the length needed.
 use crate::place;
-use order_definition::tables;
+use order_tables::tables;
 ghost use mathlib.Core.Path.{_≡_};
 ghost use Prim.Native.Nat.{_≤_};
 ghost use lib.ListN.{length};

@@ -1,7 +1,7 @@
 // The placing: breadth-first, stretch by stretch, each particle adding its unplaced neighbours by (degree, index). What is placed is marked.
-use order_definition::sort;
-use order_definition::tables;
-use order_search::start;
+use order_start::start;
+use order_tables::sort;
+use order_tables::tables;
 ghost use mathlib.Core.Path.{_≡_};
 ghost use mathlib.Core.Bool.{not, _&&_};
 ghost use mathlib.Core.List.{_++_};

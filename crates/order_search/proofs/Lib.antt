@@ -1,4 +1,2 @@
 mod Meeting
 pub mod Exploring
-pub mod Looking
-mod Settling

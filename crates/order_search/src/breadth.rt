@@ -1,5 +1,4 @@
 // The breadth-first search over the particles that are not marked.
-use order_definition::tables;
 ghost use mathlib.Core.Path.{_≡_};
 ghost use mathlib.Core.Bool.{not, true, _&&_};
 ghost use Prim.Native.Nat.{_≤_, _<_};

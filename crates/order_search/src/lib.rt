@@ -1,3 +1,2 @@
-// The breadth-first search, and the search for a start by it.
+// The breadth-first search.
 pub mod breadth;
-pub mod start;

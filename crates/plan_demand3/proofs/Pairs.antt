@@ -14,11 +14,11 @@ use Rattle.matrix_shape.specs.Given.{patternRoom, formed}
 use Rattle.matrix_shape.specs.Made.{startOf, Begins, begins, stored-passes, passes-stored, well-formed}
 use Rattle.matrix_pairs.specs.Pairs.{storedBy, own, twin, Together, together-is, together-of, together-below}
 use Rattle.matrix_build.specs.Build.{builtOf}
-use Rattle.matrix_doors.specs.Building as building
-use Rattle.matrix_doors.specs.Building.{In, Out, Ready, ready, work}
-use Rattle.matrix_doors.specs.FromPairs as frompairs
-use Rattle.matrix_doors.specs.declared.Built.{Built}
-use Rattle.matrix_doors.specs.declared.Built.the-variants.{Refused, Done}
+use Rattle.matrix_building.specs.Building as building
+use Rattle.matrix_building.specs.Building.{In, Out, Ready, ready, work}
+use Rattle.matrix_building.specs.FromPairs as frompairs
+use Rattle.matrix_building.specs.declared.Built.{Built}
+use Rattle.matrix_building.specs.declared.Built.the-variants.{Refused, Done}
 use Rattle.order_demand3.proofs.Carried.{Alike}
 
 -- ---- an answered call has built

@@ -15,9 +15,9 @@ use Rattle.matrix_shape.specs.Made.{rowOf, colsOf, startOf, slotOf, startsOf, s
 use Rattle.matrix_shape.specs.Given.{patternRoom, formed}
 use Rattle.matrix_pairs.specs.Pairs.{joined, storedBy, Together}
 use Rattle.matrix_build.specs.Build.{builtOf}
-use Rattle.matrix_doors.specs.Building as building
-use Rattle.matrix_doors.specs.Building.{listsRoom, refusals as buildRefusals, work as buildWork}
-use Rattle.matrix_doors.specs.declared.Built.the-variants as built
+use Rattle.matrix_building.specs.Building as building
+use Rattle.matrix_building.specs.Building.{listsRoom, refusals as buildRefusals, work as buildWork}
+use Rattle.matrix_building.specs.declared.Built.the-variants as built
 use Rattle.order_definition.specs.Order.{neighbours, reach, settle, chooseStart, fresh, placing, orderOf}
 use Rattle.order_definition.specs.Envelope.{firstBlock, firstCol, rowStarts}
 use Rattle.order_demand3.specs.Demand.{Demand3}

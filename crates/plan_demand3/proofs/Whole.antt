@@ -6,7 +6,7 @@ use Rattle.law.specs.Limit.{envelope}
 use Rattle.law.specs.Truth.{below-or}
 use Rattle.law.specs.Room.{enough}
 use Rattle.law.specs.Promise.{Promise}
-use Rattle.matrix_doors.specs.Building as building
+use Rattle.matrix_building.specs.Building as building
 use Rattle.order_demand3.proofs.Carried.{demand-carried}
 use Rattle.plan_make.specs.Plan.{Plan}
 use Rattle.plan_make.specs.Parts.{Work}

@@ -12,9 +12,9 @@ use Rattle.law.specs.Promise.{Promise}
 use Rattle.matrix_shape.specs.Rows.{at}
 use Rattle.matrix_shape.specs.Given.{formed}
 use Rattle.matrix_pairs.specs.Pairs.{Together}
-use Rattle.matrix_doors.specs.Building as building
-use Rattle.matrix_doors.specs.FromPairs as frompairs
-use Rattle.matrix_doors.specs.declared.Built.the-variants as built
+use Rattle.matrix_building.specs.Building as building
+use Rattle.matrix_building.specs.FromPairs as frompairs
+use Rattle.matrix_building.specs.declared.Built.the-variants as built
 use Rattle.order_demand3.specs.Demand.{Demand3}
 use Rattle.plan_make.specs.Plan.{Plan}
 use Rattle.plan_make.specs.Parts.{Work}

@@ -1,3 +1,2 @@
-// The test of a plan: by itself, and beside the pattern that it is to enclose.
-pub mod inside;
+// The test of a plan by itself.
 pub mod plan;

@@ -15,8 +15,8 @@ use Rattle.matrix_shape.specs.Given.{patternRoom, formed}
 use Rattle.matrix_shape.specs.Made as made
 use Rattle.matrix_pairs.specs.Pairs.{joined, storedBy}
 use Rattle.matrix_build.specs.Build.{builtOf}
-use Rattle.matrix_doors.specs.Building as building
-use Rattle.matrix_doors.specs.FromPairs as frompairs
+use Rattle.matrix_building.specs.Building as building
+use Rattle.matrix_building.specs.FromPairs as frompairs
 use Rattle.order_definition.specs.Order.{neighbours, reach, settle, chooseStart, fresh, placing, orderOf}
 use Rattle.order_definition.specs.Envelope.{firstBlock, firstCol, rowStarts}
 use Rattle.plan_make.specs.Plan as plan
@@ -27,7 +27,7 @@ use Rattle.factor_load.specs.Load.{besideOf, cornerOf, slotInto, slotsInto, row
 use Rattle.factor_row.specs.Row.{later, reducedOf, entryOf, entryStep, leftOf, squareStep, pivotOf}
 use Rattle.factor_make.specs.Factor.{closeOf, rowOf, rowStep, factorOf}
 use Rattle.factor_make.specs.Matrix.{matrixOf}
-use Rattle.factor_substitution.specs.Passes as passes
+use Rattle.factor_passes.specs.Passes as passes
 use Rattle.factor_substitution.specs.Solve as substitution
 use Rattle.factor_doors.specs.Factorizing as factorizing
 use Rattle.factor_doors.specs.Solving as substituting

@@ -10,10 +10,10 @@ use lib.Ieee.{Float, binary32, ofInt, neg}
 use Rattle.law.specs.Promise.{outcome}
 use Rattle.law.specs.Said as says
 use Rattle.order_definition.specs.Order.{numbers, least, degree, neighbours, startAfter}
-use Rattle.matrix_doors.specs.declared.Built.{Built}
-use Rattle.matrix_doors.specs.declared.Built.the-variants as built
-use Rattle.matrix_doors.specs.Building as building
-use Rattle.matrix_doors.specs.FromPairs as frompairs
+use Rattle.matrix_building.specs.declared.Built.{Built}
+use Rattle.matrix_building.specs.declared.Built.the-variants as built
+use Rattle.matrix_building.specs.Building as building
+use Rattle.matrix_building.specs.FromPairs as frompairs
 use Rattle.plan_make.specs.Plan.{Plan, four}
 use Rattle.plan_make.specs.Parts.{Work, five}
 use Rattle.plan_doors.specs.Planning as planning

@@ -2,8 +2,8 @@
 // floats. Nothing of these in a refusal.
 ghost use Prim.Native.Nat.{_≤_};
 ghost use Rattle.replay_tokens.specs.Room.{room};
+use columns_block::ParticleBlock;
 use columns_combine::Combined;
-use columns_combine::ParticleBlock;
 use columns_make::Computed;
 use columns_table::Loaded;
 use replay_tokens::print::Room;

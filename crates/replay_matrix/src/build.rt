@@ -4,7 +4,7 @@ ghost use Prim.Native.Nat.{_≤_};
 ghost use Rattle.replay_tokens.specs.Room.{room};
 use crate::verdict::built;
 use law::wide;
-use matrix_doors::Built;
+use matrix_building::Built;
 use replay_tokens::list::LONGEST;
 use replay_tokens::list::filled;
 use replay_tokens::list::lent_reals;

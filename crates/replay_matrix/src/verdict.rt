@@ -6,12 +6,12 @@ use replay_tokens::print::word;
 use replay_tokens::verdict::done;
 use replay_tokens::verdict::refused;
 
-pub fn built(answer: matrix_doors::Built, out: &mut Room) -> usize
+pub fn built(answer: matrix_building::Built, out: &mut Room) -> usize
     ensures { λ r. ⌜ r ≤ room ⌝ }
 {
     match answer {
-        matrix_doors::Built::Refused(number) => refused(number, out),
-        matrix_doors::Built::Done(count) => done(count as u64, out),
+        matrix_building::Built::Refused(number) => refused(number, out),
+        matrix_building::Built::Done(count) => done(count as u64, out),
     }
 }
 

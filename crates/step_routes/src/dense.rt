@@ -66,7 +66,7 @@ pub fn plan_fits(
     if !dense {
         return true;
     }
-    plan_test::inside::fits(
+    plan_inside::inside::fits(
         n,
         row_offsets,
         cols,

@@ -1,7 +1,7 @@
 -- `columns_doors::particle_block_from_columns` meets its contract. Assumes nothing.
 use mathlib.Core.Path.{refl, sym, _∙_}
 use Rattle.law.specs.Promise.{refuses, accepts}
-use Rattle.columns_combine.specs.Blocking.{door, ready}
+use Rattle.columns_block.specs.Blocking.{door, ready}
 use borrow.Author.Needs.{needs}
 use Rattle.columns_doors.proofs.particle_block_from_columns.Statement.{statement}
 use Rattle.columns_doors.proofs.particle_block_from_columns.Tie as tie

@@ -1,7 +1,7 @@
 -- `matrix_doors::from_pairs` meets its contract. Assumes nothing.
 use mathlib.Core.Path.{sym, _∙_, refl}
 use Rattle.law.specs.Promise.{refuses, accepts}
-use Rattle.matrix_doors.specs.FromPairs as frompairs
+use Rattle.matrix_building.specs.FromPairs as frompairs
 use borrow.Author.Needs.{needs}
 use Rattle.matrix_doors.proofs.from_pairs.Statement.{statement}
 use Rattle.matrix_doors.proofs.from_pairs.Tie as tie

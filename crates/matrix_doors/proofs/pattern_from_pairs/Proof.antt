@@ -1,7 +1,7 @@
 -- `matrix_doors::pattern_from_pairs` meets its contract. Assumes nothing.
 use mathlib.Core.Path.{sym, _∙_, refl}
 use Rattle.law.specs.Promise.{refuses, accepts}
-use Rattle.matrix_doors.specs.Building as building
+use Rattle.matrix_building.specs.Building as building
 use borrow.Author.Needs.{needs}
 use Rattle.matrix_doors.proofs.pattern_from_pairs.Statement.{statement}
 use Rattle.matrix_doors.proofs.pattern_from_pairs.Tie as tie

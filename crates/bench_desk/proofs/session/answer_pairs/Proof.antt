@@ -2,7 +2,7 @@
 use mathlib.Core.Path.{sym}
 use native.Mathlib.Omega.{arith}
 use lib.Seq.{length-take-le}
-use Rattle.bench_desk.specs.Answering.{lines-fit, gave-three, gave-refusal, gave-lines}
+use Rattle.bench_answer.specs.Answering.{lines-fit, gave-three, gave-refusal, gave-lines}
 use borrow.Author.Needs.{needs}
 use Rattle.bench_desk.proofs.session.answer_pairs.Statement.{statement}
 use Rattle.bench_desk.proofs.session.answer_pairs.Tie as tie

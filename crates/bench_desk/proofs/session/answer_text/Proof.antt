@@ -3,7 +3,7 @@ use mathlib.Core.Path.{sym}
 use native.Mathlib.Omega.{arith}
 use lib.Seq.{length-take-le}
 use Rattle.bench_plan.specs.Read.{read-number, read-well, read-counted}
-use Rattle.bench_desk.specs.Answering.{gave-early, gave-pairs}
+use Rattle.bench_answer.specs.Answering.{gave-early, gave-pairs}
 use borrow.Author.Needs.{needs}
 use Rattle.bench_desk.proofs.session.answer_text.Statement.{statement}
 use Rattle.bench_desk.proofs.session.answer_text.Tie as tie

@@ -4,7 +4,7 @@ use native.Mathlib.Nat.{le-of-eq}
 use native.Mathlib.Omega.{arith}
 use denote.Ref.{now}
 use Rattle.matrix_shape.specs.Rows.{at}
-use Rattle.factor_substitution.specs.Held.{held-of}
+use Rattle.factor_passes.specs.Held.{held-of}
 use Rattle.factor_substitution.specs.Calls.{solve-calls}
 use borrow.Author.Needs.{needs}
 use Rattle.factor_substitution.proofs.inner.solve.Statement.{statement}

@@ -4,7 +4,7 @@ use Prim.Native.Nat.{ℕ, _+_}
 use native.Mathlib.Omega.{arith}
 use lib.ListN.{length, set, length-set}
 use Rattle.law.specs.Store.{written-long}
-use Rattle.matrix_build.specs.Chain.{chain-raise}
+use Rattle.matrix_lists.specs.Chain.{chain-raise}
 use Rattle.matrix_build.specs.Filled.{never, row-rank, row-length, row-stored}
 use borrow.Author.Needs.{needs}
 use Rattle.matrix_build.proofs.filling.fill_row.Statement.{statement}

@@ -3,7 +3,7 @@ use Prim.Native.Nat.{_*_, _-_, _≤_, _<_}
 use native.Mathlib.Omega.{arith}
 use lib.ListN.{length, getD}
 use Rattle.law.specs.Store.{written-long}
-use Rattle.matrix_build.specs.Chain.{chain-front}
+use Rattle.matrix_lists.specs.Chain.{chain-front}
 use Rattle.matrix_build.specs.Swept.{Sweeping, sweep-none, sweep-link, sweep-next, sweep-room, sweep-more, sweep-done}
 use borrow.Author.Needs.{needs}
 use Rattle.matrix_build.proofs.filling.sweep.Statement.{statement}

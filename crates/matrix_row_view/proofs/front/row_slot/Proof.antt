@@ -6,7 +6,7 @@ use lib.ListN.{length, take}
 use lib.Seq.{length-take-le}
 use borrow.Author.Needs.{needs}
 use denote.Ref.{now}
-use Rattle.matrix_row_view.specs.Row.{span-ok}
+use Rattle.matrix_row.specs.Row.{span-ok}
 use Rattle.matrix_row_view.proofs.front.row_slot.Statement.{statement}
 use Rattle.matrix_row_view.proofs.front.row_slot.Tie as tie
 

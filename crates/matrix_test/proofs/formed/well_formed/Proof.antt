@@ -4,7 +4,7 @@ use borrow.Author.Needs.{needs}
 use Rattle.law.specs.Truth.{passed, refused}
 use Rattle.matrix_shape.specs.Formed.{wellFormed, starts-is}
 use Rattle.matrix_shape.specs.Phases.{spread-of}
-use Rattle.matrix_test.specs.Cursors.{walk-is}
+use Rattle.matrix_walk.specs.Cursors.{walk-is}
 use Rattle.matrix_test.proofs.formed.well_formed.Statement.{statement}
 use Rattle.matrix_test.proofs.formed.well_formed.Tie as tie
 

@@ -7,7 +7,7 @@ use denote.Ref.{now}
 use lib.ListN.{length}
 use Rattle.law.specs.Mix.{mix, mix-none, turn-stores}
 use Rattle.plane.specs.Lent.{flat}
-use Rattle.matrix_values.specs.Dirichlet.{zeroBlock}
+use Rattle.matrix_values.specs.Blocks.{zeroBlock}
 use Rattle.matrix_values.proofs.inner.clear_values.Statement.{statement}
 use Rattle.matrix_values.proofs.inner.clear_values.Tie as tie
 

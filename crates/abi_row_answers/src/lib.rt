@@ -1,0 +1,2 @@
+// The row view's answers as the numbers that a C caller is told, beside crate `abi_answers`.
+pub mod row;

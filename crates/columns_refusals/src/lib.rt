@@ -1,0 +1,2 @@
+// What computing the columns is refused by (rules, module 6), before any list is touched.
+pub mod refuse;

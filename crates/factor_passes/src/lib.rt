@@ -1,0 +1,2 @@
+// The two passes over the factor's rows.
+pub mod passes;

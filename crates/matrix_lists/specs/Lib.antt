@@ -1,0 +1,4 @@
+pub mod Ways
+pub mod Filed
+pub mod Chain
+pub mod Turned

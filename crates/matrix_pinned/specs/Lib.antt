@@ -1,0 +1,4 @@
+pub mod Dirichlet
+pub mod Mirrors
+pub mod Marked
+pub mod AnyOrder

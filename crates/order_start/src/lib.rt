@@ -1,0 +1,2 @@
+// The search for a stretch's start.
+pub mod start;
