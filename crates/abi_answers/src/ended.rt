@@ -6,7 +6,7 @@ ghost use Rattle.abi_answers.specs.Told.{updated_number, solved_number, places_o
 use gradient_definition::Outcome;
 use gradient_doors::{Solved, Updated};
 
-#[derive(Drop)]
+#[derive(Clone, Copy)]
 pub struct Places {
     pub how: u32,
     pub count: usize,

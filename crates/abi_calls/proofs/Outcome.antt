@@ -40,81 +40,81 @@ use Rattle.abi_calls.specs.contracts.solver.bracket_solve as bracket-solve
 use Rattle.abi_calls.specs.contracts.conjugate.bracket_update_preconditioner as bracket-update-preconditioner
 use Rattle.abi_calls.specs.contracts.conjugate.bracket_conjugate_gradient as bracket-conjugate-gradient
 
-pub one_bracket_root : OneOutcome bracket-root.ended (λ M. bracket-root.spec)
+pub one_bracket_root : OneOutcome bracket-root.ended (λ M 𝓤. bracket-root.spec)
 one_bracket_root = plainly bracket-root.ended _ (λ κs a p. of_parts _ _ (λ r. (r, past 1 tt)) refl (λ w. refl))
 
-pub one_bracket_dot : OneOutcome bracket-dot.ended (λ M. bracket-dot.spec)
+pub one_bracket_dot : OneOutcome bracket-dot.ended (λ M 𝓤. bracket-dot.spec)
 one_bracket_dot = plainly bracket-dot.ended _ (λ κs a p. of_parts _ _ (λ r. (r, past 4 tt)) refl (λ w. refl))
 
-pub one_bracket_determinant : OneOutcome bracket-determinant.ended (λ M. bracket-determinant.spec)
+pub one_bracket_determinant : OneOutcome bracket-determinant.ended (λ M 𝓤. bracket-determinant.spec)
 one_bracket_determinant = plainly bracket-determinant.ended _ (λ κs a p. of_parts _ _ (λ r. (r, past 4 tt)) refl (λ w. refl))
 
-pub one_bracket_times : OneOutcome bracket-times.ended (λ M. bracket-times.spec)
+pub one_bracket_times : OneOutcome bracket-times.ended (λ M 𝓤. bracket-times.spec)
 one_bracket_times = plainly bracket-times.ended _ (λ κs a p. of_parts _ _ (λ o. (o.number, past 6 (o.out, tt))) refl (λ w. refl))
 
-pub one_bracket_inverse : OneOutcome bracket-inverse.ended (λ M. bracket-inverse.spec)
+pub one_bracket_inverse : OneOutcome bracket-inverse.ended (λ M 𝓤. bracket-inverse.spec)
 one_bracket_inverse = plainly bracket-inverse.ended _ (λ κs a p. of_parts _ _ (λ o. (o.number, past 4 (o.out, tt))) refl (λ w. refl))
 
-pub one_bracket_row_first : OneOutcome bracket-row-first.ended (λ M. bracket-row-first.spec)
+pub one_bracket_row_first : OneOutcome bracket-row-first.ended (λ M 𝓤. bracket-row-first.spec)
 one_bracket_row_first = plainly bracket-row-first.ended _ (λ κs a p.
     of_told showing.span_door (λ o. o.answer) spanned_number _ _ _ spanned_first _ _
     (λ r o p. (r, past 4 (p, tt))) (λ r p. refl) (λ k r p. refl) (λ r o p. (refl, refl)) (λ w a. refl))
 
-pub one_bracket_row_len : OneOutcome bracket-row-len.ended (λ M. bracket-row-len.spec)
+pub one_bracket_row_len : OneOutcome bracket-row-len.ended (λ M 𝓤. bracket-row-len.spec)
 one_bracket_row_len = plainly bracket-row-len.ended _ (λ κs a p.
     of_told showing.span_door (λ o. o.answer) spanned_number _ _ _ spanned_len _ _
     (λ r o p. (r, past 4 (p, tt))) (λ r p. refl) (λ k r p. refl) (λ r o p. (refl, refl)) (λ w a. refl))
 
-pub one_bracket_row_col : OneOutcome bracket-row-col.ended (λ M. bracket-row-col.spec)
+pub one_bracket_row_col : OneOutcome bracket-row-col.ended (λ M 𝓤. bracket-row-col.spec)
 one_bracket_row_col = plainly bracket-row-col.ended _ (λ κs a p.
     of_told (showing.column_door _) (λ o. o.answer) seen_number _ _ _ seen_col _ _
     (λ r o p. (r, past 5 (p, tt))) (λ r p. refl) (λ k r p. refl) (λ r o p. (refl, refl)) (λ w a. refl))
 
-pub one_bracket_row_slot : OneOutcome bracket-row-slot.ended (λ M. bracket-row-slot.spec)
+pub one_bracket_row_slot : OneOutcome bracket-row-slot.ended (λ M 𝓤. bracket-row-slot.spec)
 one_bracket_row_slot = plainly bracket-row-slot.ended _ (λ κs a p.
     of_told (showing.slot_door _) (λ o. o.answer) placed_number _ _ _ placed_slot _ _
     (λ r o p. (r, past 5 (p, tt))) (λ r p. refl) (λ k r p. refl) (λ r o p. (refl, refl)) (λ w a. refl))
 
-pub one_bracket_from_pairs : OneOutcome bracket-from-pairs.ended (λ M. bracket-from-pairs.spec)
+pub one_bracket_from_pairs : OneOutcome bracket-from-pairs.ended (λ M 𝓤. bracket-from-pairs.spec)
 unfolding frompairs.work building.work
 one_bracket_from_pairs = plainly bracket-from-pairs.ended _ (λ κs a p.
     of_numbered frompairs.door (λ o. o.pattern.answer) built_number _ _ _
     (λ r o. (r, past 3 (o.pattern.row_offsets, (o.pattern.cols, (o.pattern.diagonal, (o.blocks, (o.pattern.work, tt)))))))
     (λ r. refl) (λ k r. refl) (λ r o. refl) (λ w a. refl))
 
-pub one_bracket_pattern_from_pairs : OneOutcome bracket-pattern-from-pairs.ended (λ M. bracket-pattern-from-pairs.spec)
+pub one_bracket_pattern_from_pairs : OneOutcome bracket-pattern-from-pairs.ended (λ M 𝓤. bracket-pattern-from-pairs.spec)
 unfolding building.work
 one_bracket_pattern_from_pairs = plainly bracket-pattern-from-pairs.ended _ (λ κs a p.
     of_numbered building.door (λ o. o.answer) built_number _ _ _
     (λ r o. (r, past 3 (o.row_offsets, (o.cols, (o.diagonal, (o.work, tt)))))) (λ r. refl) (λ k r. refl) (λ r o. refl) (λ w a. refl))
 
-pub one_bracket_block_index : OneOutcome bracket-block-index.ended (λ M. bracket-block-index.spec)
+pub one_bracket_block_index : OneOutcome bracket-block-index.ended (λ M 𝓤. bracket-block-index.spec)
 one_bracket_block_index = plainly bracket-block-index.ended _ (λ κs a p. of_both _ _ _ _ (λ r s. (r, past 6 (s, tt))) refl refl (λ w. refl))
 
-pub one_bracket_diagonal_index : OneOutcome bracket-diagonal-index.ended (λ M. bracket-diagonal-index.spec)
+pub one_bracket_diagonal_index : OneOutcome bracket-diagonal-index.ended (λ M 𝓤. bracket-diagonal-index.spec)
 one_bracket_diagonal_index = plainly bracket-diagonal-index.ended _ (λ κs a p. of_both _ _ _ _ (λ r s. (r, past 5 (s, tt))) refl refl (λ w. refl))
 
-pub one_bracket_clear_values : OneOutcome bracket-clear-values.ended (λ M. bracket-clear-values.spec)
+pub one_bracket_clear_values : OneOutcome bracket-clear-values.ended (λ M 𝓤. bracket-clear-values.spec)
 one_bracket_clear_values = plainly bracket-clear-values.ended _ (λ κs a p.
     of_numbered clearing.door (λ o. o.answer) ran_number _ _ _
     (λ r o. (r, past 4 (o.blocks, tt))) (λ r. refl) (λ k r. refl) (λ r o. refl) (λ w a. refl))
 
-pub one_bracket_mul : OneOutcome bracket-mul.ended (λ M. bracket-mul.spec)
+pub one_bracket_mul : OneOutcome bracket-mul.ended (λ M 𝓤. bracket-mul.spec)
 one_bracket_mul = plainly bracket-mul.ended _ (λ κs a p.
     of_numbered multiplying.door (λ o. o.answer) ran_number _ _ _
     (λ r o. (r, past 6 (o.out, tt))) (λ r. refl) (λ k r. refl) (λ r o. refl) (λ w a. refl))
 
-pub one_bracket_make_dirichlet : OneOutcome bracket-make-dirichlet.ended (λ M. bracket-make-dirichlet.spec)
+pub one_bracket_make_dirichlet : OneOutcome bracket-make-dirichlet.ended (λ M 𝓤. bracket-make-dirichlet.spec)
 one_bracket_make_dirichlet = plainly bracket-make-dirichlet.ended _ (λ κs a p.
     of_numbered pinning.door (λ o. o.answer) ran_number _ _ _
     (λ r o. (r, past 5 (o.blocks, tt))) (λ r. refl) (λ k r. refl) (λ r o. refl) (λ w a. refl))
 
-pub one_bracket_make_dirichlet_marked : OneOutcome bracket-make-dirichlet-marked.ended (λ M. bracket-make-dirichlet-marked.spec)
+pub one_bracket_make_dirichlet_marked : OneOutcome bracket-make-dirichlet-marked.ended (λ M 𝓤. bracket-make-dirichlet-marked.spec)
 one_bracket_make_dirichlet_marked = plainly bracket-make-dirichlet-marked.ended _ (λ κs a p.
     of_numbered pinningmarked.door (λ o. o.answer) ran_number _ _ _
     (λ r o. (r, past 5 (o.blocks, tt))) (λ r. refl) (λ k r. refl) (λ r o. refl) (λ w a. refl))
 
-pub one_bracket_plan : OneOutcome bracket-plan.ended (λ M. bracket-plan.spec)
+pub one_bracket_plan : OneOutcome bracket-plan.ended (λ M 𝓤. bracket-plan.spec)
 unfolding planning.work planning.refuse
 one_bracket_plan = plainly bracket-plan.ended _ (λ κs a p.
     of_numbered planning.door (λ o. o.answer) planned_number _ _ _
@@ -135,25 +135,25 @@ one_bracket_plan = plainly bracket-plan.ended _ (λ κs a p.
       ),
     )) (λ r. refl) (λ k r. refl) (λ r o. refl) (λ w a. refl))
 
-pub one_bracket_factorize : OneOutcome bracket-factorize.ended (λ M. bracket-factorize.spec)
+pub one_bracket_factorize : OneOutcome bracket-factorize.ended (λ M 𝓤. bracket-factorize.spec)
 unfolding factorizing.work
 one_bracket_factorize = plainly bracket-factorize.ended _ (λ κs a p.
     of_told factorizing.door (λ o. o.answer) direct.factored_number _ _ _ direct.places_of _ _
     (λ r o p. (r, past 9 (o.values, (p.how, (p.row, (p.pivot, tt)))))) (λ r p. refl) (λ k r p. refl)
     (λ r o p. (refl, refl)) (λ w a. refl))
 
-pub one_bracket_solve : OneOutcome bracket-solve.ended (λ M. bracket-solve.spec)
+pub one_bracket_solve : OneOutcome bracket-solve.ended (λ M 𝓤. bracket-solve.spec)
 unfolding direct-solving.work
 one_bracket_solve = plainly bracket-solve.ended _ (λ κs a p.
     of_numbered direct-solving.door (λ o. o.answer) direct.solved_number _ _ _
     (λ r o. (r, past 7 (o.x, (o.scratch, tt)))) (λ r. refl) (λ k r. refl) (λ r o. refl) (λ w a. refl))
 
-pub one_bracket_update_preconditioner : OneOutcome bracket-update-preconditioner.ended (λ M. bracket-update-preconditioner.spec)
+pub one_bracket_update_preconditioner : OneOutcome bracket-update-preconditioner.ended (λ M 𝓤. bracket-update-preconditioner.spec)
 one_bracket_update_preconditioner = plainly bracket-update-preconditioner.ended _ (λ κs a p.
     of_numbered updating.door (λ o. o.answer) updated_number _ _ _
     (λ r o. (r, past 5 (o.preconditioner, tt))) (λ r. refl) (λ k r. refl) (λ r o. refl) (λ w a. refl))
 
-pub one_bracket_conjugate_gradient : OneOutcome bracket-conjugate-gradient.ended (λ M. bracket-conjugate-gradient.spec)
+pub one_bracket_conjugate_gradient : OneOutcome bracket-conjugate-gradient.ended (λ M 𝓤. bracket-conjugate-gradient.spec)
 unfolding solving.work
 one_bracket_conjugate_gradient = plainly bracket-conjugate-gradient.ended _ (λ κs a p.
     of_told solving.door (λ o. o.answer) solved_number _ _ _ places_of _ _

@@ -1,4 +1,6 @@
 // The C ABI: numbers and slices over the public calls. A slice is a pointer and a length in C.
+#![tactic(auto)]
+
 ghost use Rattle.std.specs.Prelude.{◌≡◌};
 ghost use Rattle.law.specs.Promise.{Promise};
 ghost use Rattle.plane.specs.Plane.{pair, dot_of, times_of, determinant_of, inverse_of};

@@ -18,17 +18,17 @@ use Rattle.abi_columns_calls.specs.contracts.computing.bracket_compute_columns a
 use Rattle.abi_columns_calls.specs.contracts.combining.bracket_response_from_columns as bracket-response-from-columns
 use Rattle.abi_columns_calls.specs.contracts.combining.bracket_particle_block_from_columns as bracket-particle-block-from-columns
 
-pub one_bracket_clear_columns : OneOutcome bracket-clear-columns.ended (λ M. bracket-clear-columns.spec)
+pub one_bracket_clear_columns : OneOutcome bracket-clear-columns.ended (λ M 𝓤. bracket-clear-columns.spec)
 one_bracket_clear_columns = plainly bracket-clear-columns.ended _ (λ κs a p.
     of_told clearing.door (λ o. o.answer) loads.loaded_number _ _ _ loads.loaded_after _ _
     (λ r o p. (r, past 1 (o.column_of, (p, tt)))) (λ r p. refl) (λ k r p. refl) (λ r o p. (refl, refl)) (λ w a. refl))
 
-pub one_bracket_load_particle : OneOutcome bracket-load-particle.ended (λ M. bracket-load-particle.spec)
+pub one_bracket_load_particle : OneOutcome bracket-load-particle.ended (λ M 𝓤. bracket-load-particle.spec)
 one_bracket_load_particle = plainly bracket-load-particle.ended _ (λ κs a p.
     of_told loading.door (λ o. o.answer) loads.loaded_number _ _ _ loads.loaded_after _ _
     (λ r o p. (r, past 4 (o.column_of, (p, tt)))) (λ r p. loaded _) (λ k r p. refl) (λ r o p. (refl, refl)) (λ w a. refl))
 
-pub one_bracket_compute_columns : OneOutcome bracket-compute-columns.ended (λ M. bracket-compute-columns.spec)
+pub one_bracket_compute_columns : OneOutcome bracket-compute-columns.ended (λ M 𝓤. bracket-compute-columns.spec)
 unfolding making.work
 one_bracket_compute_columns = plainly bracket-compute-columns.ended _ (λ κs a p.
     of_told making.door computes.reckoned computes.reckoned_number _ _ _ computes.numbers_of _ _
@@ -58,13 +58,13 @@ one_bracket_compute_columns = plainly bracket-compute-columns.ended _ (λ κs a 
       ),
     )) (λ r p. refl) (λ k r p. refl) (λ r o p. (refl, refl)) (λ w a. refl))
 
-pub one_bracket_response_from_columns : OneOutcome bracket-response-from-columns.ended (λ M. bracket-response-from-columns.spec)
+pub one_bracket_response_from_columns : OneOutcome bracket-response-from-columns.ended (λ M 𝓤. bracket-response-from-columns.spec)
 unfolding combining.work
 one_bracket_response_from_columns = plainly bracket-response-from-columns.ended _ (λ κs a p.
     of_told combining.door (λ o. o.answer) combines.combined_number _ _ _ combines.gained_of _ _
     (λ r o p. (r, past 8 (o.out, (p.gain, (p.how, tt))))) (λ r p. refl) (λ k r p. refl) (λ r o p. (refl, refl)) (λ w a. refl))
 
-pub one_bracket_particle_block_from_columns : OneOutcome bracket-particle-block-from-columns.ended (λ M. bracket-particle-block-from-columns.spec)
+pub one_bracket_particle_block_from_columns : OneOutcome bracket-particle-block-from-columns.ended (λ M 𝓤. bracket-particle-block-from-columns.spec)
 one_bracket_particle_block_from_columns = plainly bracket-particle-block-from-columns.ended _ (λ κs a p.
     of_told blocking.door (λ o. o.answer) blocks.block_number _ _ _ blocks.shown_of _ _
     (λ r o p. (r, past 6 (o.out, (p.how, (p.block, tt))))) (λ r p. blocked _) (λ k r p. refl) (λ r o p. (refl, refl)) (λ w a. refl))

@@ -1,2 +1,4 @@
 // Floats handed out over the C ABI.
+#![tactic(auto)]
+
 pub mod lent;

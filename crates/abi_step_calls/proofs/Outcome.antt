@@ -15,13 +15,13 @@ use Rattle.abi_step_calls.specs.contracts.marking.bracket_factorize_step_matrix 
 use Rattle.abi_step_calls.specs.contracts.stepping.bracket_solve_step as bracket-solve-step
 use Rattle.abi_step_calls.specs.contracts.responding.bracket_response_into as bracket-response-into
 
-pub one_bracket_factorize_step_matrix : OneOutcome bracket-factorize-step-matrix.ended (λ M. bracket-factorize-step-matrix.spec)
+pub one_bracket_factorize_step_matrix : OneOutcome bracket-factorize-step-matrix.ended (λ M 𝓤. bracket-factorize-step-matrix.spec)
 one_bracket_factorize_step_matrix = plainly bracket-factorize-step-matrix.ended _ (λ κs a p.
     of_told marking.door (λ o. o.answer) marks.marked_number _ _ _ marks.places_of _ _
     (λ r o p. (r, past 10 (o.values, (o.preconditioner, (p.how, (p.row, (p.pivot, tt))))))) (λ r p. marked _) (λ k r p. refl)
     (λ r o p. (refl, refl)) (λ w a. refl))
 
-pub one_bracket_solve_step : OneOutcome bracket-solve-step.ended (λ M. bracket-solve-step.spec)
+pub one_bracket_solve_step : OneOutcome bracket-solve-step.ended (λ M 𝓤. bracket-solve-step.spec)
 one_bracket_solve_step = plainly bracket-solve-step.ended _ (λ κs a p.
     of_tallied stepping.door (λ o. o.answer) steps.stepped_number steps.places_of after_step _ _ _ _ _ _ _
     (λ r o p c. (
@@ -48,7 +48,7 @@ one_bracket_solve_step = plainly bracket-solve-step.ended _ (λ κs a p.
     )) (λ r p c. stepped _) (λ k r p c. refl)
     (λ r o p c. (refl, refl, refl)) (λ w a. refl))
 
-pub one_bracket_response_into : OneOutcome bracket-response-into.ended (λ M. bracket-response-into.spec)
+pub one_bracket_response_into : OneOutcome bracket-response-into.ended (λ M 𝓤. bracket-response-into.spec)
 one_bracket_response_into = plainly bracket-response-into.ended _ (λ κs a p.
     of_tallied responding.door (λ o. o.answer) responses.responded_number responses.gained_of after_response _ _ _ _ _ _ _
     (λ r o p c. (

@@ -1,4 +1,6 @@
 // For measuring only: see measured.rt.
+#![tactic(auto)]
+
 mod columns;
 mod measured;
 mod solver;

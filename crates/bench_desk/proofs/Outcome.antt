@@ -17,5 +17,5 @@ so_said text out = go (number_by text (refusals (given_by text out)))
     go zero = refl
     go (suc k) = refl
 
-pub one_answer : OneOutcome answer.ended (λ M. answer.spec)
+pub one_answer : OneOutcome answer.ended (λ M 𝓤. answer.spec)
 one_answer = plainly answer.ended _ (λ κs a p. of_parts _ _ (λ (o : Out). (o.answer, past 1 (o.out, tt))) (so_said _ _) (λ w. refl))

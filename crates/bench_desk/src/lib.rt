@@ -1,4 +1,6 @@
 // The bench program's answer to a text. THE DOOR `answer` refuses by the text's own number, or writes the lines of its plan.
+#![tactic(auto)]
+
 ghost use Rattle.bench_answer.specs.Answering.{left, Answers};
 
 use bench_answer::Answered;

@@ -10,7 +10,7 @@ ghost use Rattle.bench_plan.specs.Read.{numbers_room};
 
 use bench_text::inner::Input;
 
-#[derive(Drop)]
+#[derive(Clone, Copy)]
 pub enum Drafted {
     Refused(u8),
     // How many particles there are, and how long the envelope is.

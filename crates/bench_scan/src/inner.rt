@@ -8,7 +8,7 @@ ghost use Rattle.bench_scan.specs.Scan.{from_gap, from_word, step_to, count_of, 
 const LARGEST: u64 = 4294967295;
 
 // Where a pass stands: in a text that is refused; after k numbers, none begun; after k numbers, one begun, with its value so far.
-#[derive(Drop)]
+#[derive(Clone, Copy)]
 pub enum Scan {
     Bad,
     Gap(usize),

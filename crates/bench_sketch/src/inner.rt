@@ -8,7 +8,7 @@ ghost use Rattle.bench_sketch.specs.Sketch.{Sketches};
 
 use bench_plan::inner::Drafted;
 
-#[derive(Drop)]
+#[derive(Clone, Copy)]
 pub enum Sketched {
     Refused(u8),
     // How many particles there are.

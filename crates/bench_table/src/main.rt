@@ -1,4 +1,6 @@
 // Answers each file that an argument names as the bench program answers its standard input, and writes the file's name before the answer.
+#![tactic(auto)]
+
 use libc::STDOUT_FILENO;
 
 fn run_arg(i: usize) {

@@ -4,7 +4,7 @@ ghost use Rattle.bench_text.specs.Head.{head_of, counted_of};
 
 use bench_scan::inner::Scan;
 
-#[derive(Drop)]
+#[derive(Clone, Copy)]
 pub enum Head {
     None,
     Counts(usize, usize),

@@ -9,7 +9,7 @@ ghost use Rattle.bench_text.specs.Reading.{tests, given, left, reading, Reads};
 use crate::head;
 use crate::head::Head;
 
-#[derive(Drop)]
+#[derive(Clone, Copy)]
 pub enum Input {
     Refused(u8),
     // How many particles and pairs there are.

@@ -36,26 +36,26 @@ unfolding blocking.work
 blocked i = either Blocked (eqb (at i.pinned i.particle) 0) _ _
     (either Blocked (eqb (at i.column_of i.particle) unloaded) _ _ refl refl) refl
 
-pub one_clear_columns : OneOutcome clear-columns.ended (λ M. clear-columns.spec)
+pub one_clear_columns : OneOutcome clear-columns.ended (λ M 𝓤. clear-columns.spec)
 one_clear_columns = plainly clear-columns.ended _ (λ κs a p.
     of_door clearing.door _ _ (λ o. (o.answer, past 1 (o.column_of, tt))) refl (λ k. refl) (λ w. refl))
 
-pub one_load_particle : OneOutcome load-particle.ended (λ M. load-particle.spec)
+pub one_load_particle : OneOutcome load-particle.ended (λ M 𝓤. load-particle.spec)
 one_load_particle = plainly load-particle.ended _ (λ κs a p.
     of_door loading.door _ _ (λ o. (o.answer, past 4 (o.column_of, tt))) (loaded _) (λ k. refl) (λ w. refl))
 
-pub one_compute_columns : OneOutcome compute-columns.ended (λ M. compute-columns.spec)
+pub one_compute_columns : OneOutcome compute-columns.ended (λ M 𝓤. compute-columns.spec)
 unfolding making.work
 one_compute_columns = plainly compute-columns.ended _ (λ κs a p.
     of_door making.door _ _
     (λ o. (o.answer, past 18 (o.columns, (o.rhs, (o.scratch, (o.residual, (o.direction, (o.a_direction, (o.z, (o.tally, tt))))))))))
     refl (λ k. refl) (λ w. refl))
 
-pub one_response_from_columns : OneOutcome response-from-columns.ended (λ M. response-from-columns.spec)
+pub one_response_from_columns : OneOutcome response-from-columns.ended (λ M 𝓤. response-from-columns.spec)
 unfolding combining.work
 one_response_from_columns = plainly response-from-columns.ended _ (λ κs a p.
     of_door combining.door _ _ (λ o. (o.answer, past 8 (o.out, tt))) refl (λ k. refl) (λ w. refl))
 
-pub one_particle_block_from_columns : OneOutcome particle-block-from-columns.ended (λ M. particle-block-from-columns.spec)
+pub one_particle_block_from_columns : OneOutcome particle-block-from-columns.ended (λ M 𝓤. particle-block-from-columns.spec)
 one_particle_block_from_columns = plainly particle-block-from-columns.ended _ (λ κs a p.
     of_door blocking.door _ _ (λ o. (o.answer, past 6 (o.out, tt))) (blocked _) (λ k. refl) (λ w. refl))

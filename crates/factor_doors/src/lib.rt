@@ -1,5 +1,7 @@
 // The direct solver over lent slices, soft_fem_skyline.rs's SkylineCholesky once it is planned (rules, module 4). THE DOORS: each tests all that it
 // is handed, refuses by number or does the work. A plan is its order, inverse, first columns and row starts; its last row start is the factor's length.
+#![tactic(auto)]
+
 ghost use Rattle.law.specs.Promise.{Promise};
 ghost use Rattle.factor_doors.specs.Factorizing as factorizing;
 ghost use Rattle.factor_doors.specs.Solving as solving;
@@ -7,7 +9,7 @@ ghost use Rattle.factor_doors.specs.Solving as solving;
 pub mod front;
 pub mod refuse;
 
-#[derive(Drop)]
+#[derive(Clone, Copy)]
 pub enum Factored {
     Refused(u8),
     Done,
@@ -15,7 +17,7 @@ pub enum Factored {
     Failed { row: usize, pivot: f32 },
 }
 
-#[derive(Drop)]
+#[derive(Clone, Copy)]
 pub enum Solved {
     Refused(u8),
     Done,

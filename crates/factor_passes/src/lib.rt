@@ -1,2 +1,4 @@
 // The two passes over the factor's rows.
+#![tactic(auto)]
+
 pub mod passes;

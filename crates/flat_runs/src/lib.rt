@@ -1,2 +1,4 @@
 // Stretches of lent lists, float by float.
+#![tactic(auto)]
+
 pub mod run;

@@ -1,5 +1,7 @@
 // The conjugate gradient over lent slices, soft_fem_sparse.rs's ConjugateGradient (rules, module 5). THE DOORS: each tests all that it is
 // handed, refuses by number or does the work. Vectors are two floats to a particle, values and the preconditioner four to a block.
+#![tactic(auto)]
+
 ghost use Rattle.law.specs.Promise.{Promise};
 ghost use Rattle.gradient_doors.specs.Solving as solving;
 ghost use Rattle.gradient_doors.specs.Updating as updating;
@@ -9,13 +11,13 @@ use gradient_refusals::refuse;
 
 pub mod front;
 
-#[derive(Drop)]
+#[derive(Clone, Copy)]
 pub enum Updated {
     Refused(u8),
     Done,
 }
 
-#[derive(Drop)]
+#[derive(Clone, Copy)]
 pub enum Solved {
     Refused(u8),
     Ran(Outcome),

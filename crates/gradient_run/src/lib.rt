@@ -1,2 +1,4 @@
 // The run of the conjugate gradient's turns.
+#![tactic(auto)]
+
 pub mod inner;

@@ -4,5 +4,5 @@ use Rattle.law.specs.One.{OneOutcome, plainly, past}
 use Rattle.law.specs.contracts.wide as wide
 
 -- that the number is small is what its type says
-pub one_wide : OneOutcome wide.ended (λ M. wide.spec)
+pub one_wide : OneOutcome wide.ended (λ M 𝓤. wide.spec)
 one_wide = plainly wide.ended _ (λ κs a p. ((a.0, past 1 tt), (record { same = refl; small = p.1.0.1 }, λ w h. ap (λ r. (r, past 1 tt)) h.same)))

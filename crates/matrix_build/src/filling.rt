@@ -8,7 +8,7 @@ ghost use Rattle.matrix_build.specs.Swept.{Apart, Swept};
 ghost use Rattle.matrix_build.specs.Filled.{Filling, Filled, Unfilled, AllFilled};
 
 // What is left of a row's list, and the next slot.
-#[derive(Drop)]
+#[derive(Clone, Copy)]
 struct Rest {
     list: usize,
     slot: usize,

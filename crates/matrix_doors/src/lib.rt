@@ -1,6 +1,8 @@
 // Block matrices over lent slices, soft_fem_sparse.rs's BlockMatrix. THE DOORS: each tests all that it is handed,
 // refuses by number or does the work. A pattern is its row offsets, columns and diagonal slots; its last row
 // offset is the block count. Values are four floats to a block, vectors two floats to a particle.
+#![tactic(auto)]
+
 ghost use Rattle.law.specs.Promise.{Promise};
 ghost use Rattle.matrix_building.specs.Building as building;
 ghost use Rattle.matrix_building.specs.FromPairs as frompairs;
@@ -15,13 +17,13 @@ use matrix_building::Built;
 pub mod inner;
 pub mod refuse;
 
-#[derive(Drop)]
+#[derive(Clone, Copy)]
 pub enum Found {
     Refused(u8),
     Slot(u32),
 }
 
-#[derive(Drop)]
+#[derive(Clone, Copy)]
 pub enum Ran {
     Refused(u8),
     Done,

@@ -4,14 +4,14 @@ ghost use Rattle.std.specs.Prelude.{◌≡◌, length};
 ghost use Rattle.matrix_row.specs.Row.{span_of, row_first, row_cols, col_or, slot_or};
 
 // A row's slots: from..to.
-#[derive(Drop)]
+#[derive(Clone, Copy)]
 pub struct Span {
     pub from: usize,
     pub to: usize,
 }
 
 // Where a block stands.
-#[derive(Drop)]
+#[derive(Clone, Copy)]
 pub enum Slot {
     At(usize),
     Absent,
@@ -85,7 +85,7 @@ pub fn slot_or(cols: &[u32], first: usize, j: usize) -> Slot
 }
 
 // One row: its part of the caller's column list, and the slot of its first block.
-#[derive(Drop)]
+#[derive(Clone, Copy)]
 pub struct Row<'a> {
     pub cols: &'a [u32],
     pub first: usize,

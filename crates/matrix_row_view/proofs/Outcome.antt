@@ -6,11 +6,11 @@ use Rattle.matrix_row_view.specs.contracts.row_span as row-span
 use Rattle.matrix_row_view.specs.contracts.row_col as row_col
 use Rattle.matrix_row_view.specs.contracts.row_slot as row-slot
 
-pub one_row_span : OneOutcome row-span.ended (λ M. row-span.spec)
+pub one_row_span : OneOutcome row-span.ended (λ M 𝓤. row-span.spec)
 one_row_span = plainly row-span.ended _ (λ κs a p. of_door showing.span_door _ _ (λ o. (o.answer, past 4 tt)) refl (λ k. refl) (λ w. refl))
 
-pub one_row_col : OneOutcome row_col.ended (λ M. row_col.spec)
+pub one_row_col : OneOutcome row_col.ended (λ M 𝓤. row_col.spec)
 one_row_col = plainly row_col.ended _ (λ κs a p. of_door (showing.column_door _) _ _ (λ o. (o.answer, past 5 tt)) refl (λ k. refl) (λ w. refl))
 
-pub one_row_slot : OneOutcome row-slot.ended (λ M. row-slot.spec)
+pub one_row_slot : OneOutcome row-slot.ended (λ M 𝓤. row-slot.spec)
 one_row_slot = plainly row-slot.ended _ (λ κs a p. of_door (showing.slot_door _) _ _ (λ o. (o.answer, past 5 tt)) refl (λ k. refl) (λ w. refl))

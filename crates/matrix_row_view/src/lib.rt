@@ -1,25 +1,27 @@
 // One row of a block matrix, shown. THE DOORS: each tests all that it is handed, refuses by number or answers. No diagonal is handed
 // and one row alone is read, so the pattern isn't tested: a row whose bounds fall or pass the last row offset has no block.
+#![tactic(auto)]
+
 ghost use Rattle.law.specs.Promise.{Promise};
 ghost use Rattle.matrix_row_view.specs.Showing as showing;
 
 pub mod front;
 pub mod refuse;
 
-#[derive(Drop)]
+#[derive(Clone, Copy)]
 pub enum Spanned {
     Refused(u8),
     // The slot of the row's first block, and how many blocks it has.
     Slots { first: usize, len: usize },
 }
 
-#[derive(Drop)]
+#[derive(Clone, Copy)]
 pub enum Seen {
     Refused(u8),
     Col(u32),
 }
 
-#[derive(Drop)]
+#[derive(Clone, Copy)]
 pub enum Placed {
     Refused(u8),
     Slot(u32),

@@ -1,2 +1,4 @@
 // The shape of a block matrix: when it is well formed, as a definition with its laws, and the search for a slot.
+#![tactic(auto)]
+
 pub mod index;

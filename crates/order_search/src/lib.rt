@@ -1,2 +1,4 @@
 // The breadth-first search.
+#![tactic(auto)]
+
 pub mod breadth;

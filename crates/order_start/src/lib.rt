@@ -1,2 +1,4 @@
 // The search for a stretch's start.
+#![tactic(auto)]
+
 pub mod start;

@@ -47,7 +47,7 @@ fn least_where(degrees: &[u32], vals: &[u32], list: &[u32], want: u32) -> usize
 }
 
 // What a search found: the far node and its level.
-#[derive(Drop)]
+#[derive(Clone, Copy)]
 struct Seen {
     far: usize,
     deep: u32,

@@ -4,7 +4,7 @@ use Rattle.law.specs.One.{OneOutcome, plainly, past, of_door}
 use Rattle.plan_doors.specs.Planning as planning
 use Rattle.plan_doors.specs.contracts.plan as plan
 
-pub one_plan : OneOutcome plan.ended (λ M. plan.spec)
+pub one_plan : OneOutcome plan.ended (λ M 𝓤. plan.spec)
 unfolding planning.work planning.refuse
 one_plan = plainly plan.ended _ (λ κs a p.
     of_door planning.door _ _ (λ o. (

@@ -1,5 +1,7 @@
 // The plan of an envelope factor, soft_fem_skyline.rs's SkylineCholesky::new (rules, module 4): the order of a pattern's particles, its
 // inverse, and where each row of the envelope starts. THE DOOR `plan` tests all that it is handed, refuses by number or does the work.
+#![tactic(auto)]
+
 ghost use Rattle.std.specs.Prelude.{◌≡◌};
 ghost use Rattle.law.specs.Promise.{Promise};
 ghost use Rattle.plan_make.specs.Plan.{four};
@@ -9,7 +11,7 @@ ghost use Rattle.plan_doors.specs.Planning.{given, left, answered, door};
 pub mod front;
 mod refuse;
 
-#[derive(Drop)]
+#[derive(Clone, Copy)]
 pub enum Planned {
     Refused(u8),
     // How long the envelope is.

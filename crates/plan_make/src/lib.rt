@@ -1,2 +1,4 @@
 // The plan of a pattern, over lists of just the length needed.
+#![tactic(auto)]
+
 pub mod inner;

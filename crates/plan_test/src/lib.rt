@@ -1,2 +1,4 @@
 // The test of a plan by itself.
+#![tactic(auto)]
+
 pub mod plan;

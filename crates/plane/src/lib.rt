@@ -1,5 +1,7 @@
 // Plane numbers: a vector is two numbers, a block two columns of two numbers, both by value. The arithmetic of the rules, module 1: no operation is fused,
 // and every operand stands where they have it.
+#![tactic(auto)]
+
 ghost use Rattle.std.specs.Prelude.{◌≡◌};
 ghost use Rattle.plane.specs.Plane.{add_of, sub_of, scale_of, dot_of, times_of, determinant_of, inverse_of, finite, block_finite};
 

@@ -1,4 +1,6 @@
 // Replays stored cases: each line of each file that an argument names is answered by a line on standard output.
+#![tactic(auto)]
+
 mod answer;
 mod line;
 

@@ -7,7 +7,7 @@ use crate::{respond, solve};
 use replay_tokens::list::{LONGEST, WORDS, as_reals, filled, lent_reals};
 use replay_tokens::print::Room;
 
-#[derive(Drop)]
+#[derive(Clone, Copy)]
 enum Call {
     Step,
     Response,

@@ -1,4 +1,6 @@
 // The step solve and the response on the words of a stored case's line.
+#![tactic(auto)]
+
 mod ending;
 mod lent;
 pub mod operation;

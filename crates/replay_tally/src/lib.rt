@@ -1,2 +1,4 @@
 // The tally of a stored case's line.
+#![tactic(auto)]
+
 pub mod record;

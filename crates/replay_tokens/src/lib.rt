@@ -1,4 +1,6 @@
 // The language of stored cases: the tokens and lists of a line, and the answer's.
+#![tactic(auto)]
+
 pub mod list;
 pub mod print;
 pub mod verdict;

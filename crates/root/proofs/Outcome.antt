@@ -4,8 +4,8 @@ use Rattle.law.specs.One.{OneOutcome, plainly, past, of_parts}
 use Rattle.root.specs.contracts.isqrt as isqrt
 use Rattle.root.specs.contracts.root as root
 
-pub one_isqrt : OneOutcome isqrt.ended (λ M. isqrt.spec)
+pub one_isqrt : OneOutcome isqrt.ended (λ M 𝓤. isqrt.spec)
 one_isqrt = plainly isqrt.ended _ (λ κs a p. of_parts _ _ (λ r. (r, past 1 tt)) refl (λ w. refl))
 
-pub one_root : OneOutcome root.ended (λ M. root.spec)
+pub one_root : OneOutcome root.ended (λ M 𝓤. root.spec)
 one_root = plainly root.ended _ (λ κs a p. of_parts _ _ (λ r. (r, past 1 tt)) refl (λ w. refl))

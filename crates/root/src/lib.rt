@@ -1,4 +1,6 @@
 // Square roots: of whole numbers, and of f32 as IEEE 754 rounds them. Both answer on every input.
+#![tactic(auto)]
+
 ghost use Rattle.std.specs.Prelude.{◌≡◌};
 ghost use Rattle.root.specs.Whole.{root_of};
 ghost use Rattle.root.specs.Sqrt.{sqrt_of};

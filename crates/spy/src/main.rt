@@ -1,5 +1,7 @@
 // The picture program: a text as the bench program reads it, from standard input; the pattern before and after ordering, as a portable bitmap, to standard
 // output.
+#![tactic(auto)]
+
 ghost use Rattle.std.specs.Prelude.{◌≡◌, ◌*◌, ◌≤◌, length};
 ghost use Rattle.law.specs.Limit.{particles};
 ghost use Rattle.bench_text.specs.Buffer.{Buffered};

@@ -1,5 +1,7 @@
 // The response to a constraint's entries over lent slices, soft_fem_system_response.rs's
 // response_into (rules, module 6). Its door lends the tally and stands in `step_doors`.
+#![tactic(auto)]
+
 use gradient_definition::Outcome;
 
 pub mod front;
@@ -7,7 +9,7 @@ pub mod inner;
 mod refuse;
 
 // The gain, and how the step solve that was asked for ended. `Nothing`: no entry is left, none was asked for, and the gain is +0.0.
-#[derive(Drop)]
+#[derive(Clone, Copy)]
 pub enum Responded {
     Refused(u8),
     Nothing,

@@ -1,5 +1,7 @@
 // The step's factor and the step solve over lent slices, soft_fem_system_response.rs (rules, module 6): the answers, the refusals and the work.
 // The doors stand in `step_doors`, where a step solve is counted too.
+#![tactic(auto)]
+
 use gradient_definition::Outcome;
 
 pub mod front;
@@ -7,7 +9,7 @@ pub mod inner;
 pub mod refuse;
 
 // Which route a step solve took, and how the iteration ended.
-#[derive(Drop)]
+#[derive(Clone, Copy)]
 pub enum Stepped {
     Refused(u8),
     Direct,
@@ -15,7 +17,7 @@ pub enum Stepped {
 }
 
 // What the factorization of a step came to. The mark is set for `Direct` only; a failure has its row and pivot.
-#[derive(Drop)]
+#[derive(Clone, Copy)]
 pub enum Marked {
     Refused(u8),
     Direct,

@@ -7,17 +7,17 @@ use Rattle.step_tally.specs.contracts.added as added
 use Rattle.step_tally.specs.contracts.counted as counted
 use Rattle.step_tally.specs.contracts.count as count
 
-pub one_fresh : OneOutcome fresh.ended (λ M. fresh.spec)
+pub one_fresh : OneOutcome fresh.ended (λ M 𝓤. fresh.spec)
 one_fresh = plainly fresh.ended _ (λ κs a p. of_parts _ _ (λ r. (r, past 0 tt)) refl (λ w. refl))
 
-pub one_total : OneOutcome total.ended (λ M. total.spec)
+pub one_total : OneOutcome total.ended (λ M 𝓤. total.spec)
 one_total = plainly total.ended _ (λ κs a p. of_parts _ _ (λ r. (r, past 1 tt)) refl (λ w. refl))
 
-pub one_added : OneOutcome added.ended (λ M. added.spec)
+pub one_added : OneOutcome added.ended (λ M 𝓤. added.spec)
 one_added = plainly added.ended _ (λ κs a p. of_parts _ _ (λ r. (r, past 2 tt)) refl (λ w. refl))
 
-pub one_counted : OneOutcome counted.ended (λ M. counted.spec)
+pub one_counted : OneOutcome counted.ended (λ M 𝓤. counted.spec)
 one_counted = plainly counted.ended _ (λ κs a p. of_parts _ _ (λ r. (r, past 2 tt)) refl (λ w. refl))
 
-pub one_count : OneOutcome count.ended (λ M. count.spec)
+pub one_count : OneOutcome count.ended (λ M 𝓤. count.spec)
 one_count = plainly count.ended _ (λ κs a p. of_parts _ _ (λ t. (tt, (t, past 1 tt))) refl (λ w. refl))

@@ -1,12 +1,14 @@
 // The tally of step solves (rules, module 7): seven counts that a caller lends, and one thin function that adds to one of them.
 // The work is `counted`, on a record by value; `count` is a walk by hand over it.
+#![tactic(auto)]
+
 ghost use Rattle.std.specs.Prelude.{◌≡◌};
 ghost use Rattle.step_tally.specs.Count.{total_of, added_of, counted_of};
 ghost use Rattle.step_tally.specs.Runs as runs;
 
 mod inner;
 
-#[derive(Drop)]
+#[derive(Clone, Copy)]
 pub struct Tally {
     pub direct: u32,
     pub zero: u32,
@@ -18,7 +20,7 @@ pub struct Tally {
 }
 
 // How a step solve ended.
-#[derive(Drop)]
+#[derive(Clone, Copy)]
 pub enum Kind {
     Direct,
     Zero,
@@ -30,7 +32,7 @@ pub enum Kind {
 }
 
 // What a call asked for: a response with no entries left asks for no step solve.
-#[derive(Drop)]
+#[derive(Clone, Copy)]
 pub enum Asked {
     Nothing,
     One(Kind),

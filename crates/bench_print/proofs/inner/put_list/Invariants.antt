@@ -1,0 +1,11 @@
+use mathlib.Core.Path.{◌≡◌, refl, ◌∙◌}
+use Prim.Native.Nat.{◌-◌, ◌≤◌}
+use native.Mathlib.Omega.{arith}
+use borrow.Author.Rules.{rules}
+use lib.ListN.{length}
+use Rattle.law.specs.Put.{Put, put_long}
+use Rattle.bench_print.proofs.Lists.{items, items_none, items_turn, items_room, items_end}
+use Rattle.bench_print.proofs.inner.put_list.Given as goal
+
+abbrev pub invariant-loop-i : goal.invariant-loop-i
+invariant-loop-i l = (l.i ≤ length l.list) × (length l.out ≡ length l.initial.out) × Put (items l.list l.i) l.at l.initial.out l.out l.to

@@ -1,0 +1,16 @@
+use mathlib.Core.Path.{sym}
+use lib.Seq.{length-take-le}
+use Rattle.bench_sketch.specs.Sketch.{sketched_none, sketched}
+use borrow.Author.Rules.{rules}
+use Rattle.bench_sketch.proofs.inner.sketch.Goals as goal
+
+pub slice_bounds-from_text-end : goal.slice_bounds-from_text-end
+slice_bounds-from_text-end c = sym (length-take-le _ _ c.requires.0.within)
+
+pub returns-in-Refused : goal.returns-in-Refused
+returns-in-Refused c =
+    sketched_none _ _ c.requires.0 _ _ _ _ c.from_text-came.result c.from_text-came.ensures _ c.came-1.given.1
+
+pub returns-in-Done : goal.returns-in-Done
+returns-in-Done c =
+    sketched _ _ c.requires.0 _ _ _ _ c.from_text-came.result c.from_text-came.ensures _ _ c.came-in-Done-1.given.1

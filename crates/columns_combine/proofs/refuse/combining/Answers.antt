@@ -1,0 +1,75 @@
+use borrow.Author.Tests.{le-leb, lt-leb}
+use Rattle.law.specs.Refusal.{goes_on, stops, ends}
+use Rattle.law.specs.Truth.{refused, passed}
+use Rattle.step_entries.specs.Entries.{has_names}
+use Rattle.columns_combine.specs.Combining.{refusals, has_places, has_marks}
+use borrow.Author.Rules.{rules}
+use Rattle.columns_combine.proofs.refuse.combining.Goals as goal
+
+pub returns-then-n-gt-PARTICLES : goal.returns-then-n-gt-PARTICLES
+unfolding refusals
+returns-then-n-gt-PARTICLES c =
+    stops _ _ _ (lt-leb _ _ c.if-n-gt-PARTICLES.true)
+
+pub returns-then-count-gt-ENTRIES : goal.returns-then-count-gt-ENTRIES
+unfolding refusals
+returns-then-count-gt-ENTRIES c =
+    goes_on _ _ _ _ (le-leb _ _ c.if-n-gt-PARTICLES.false)
+    (stops _ _ _ (lt-leb _ _ c.if-count-gt-ENTRIES.true))
+
+pub returns-then-not-room : goal.returns-then-not-room
+unfolding refusals
+returns-then-not-room c =
+    goes_on _ _ _ _ (le-leb _ _ c.if-n-gt-PARTICLES.false)
+    (goes_on _ _ _ _ (le-leb _ _ c.if-count-gt-ENTRIES.false)
+    (stops _ _ _ (refused _ _ c.room.ensures c.if-not-room.true-raw)))
+
+pub returns-then-not-entries_room : goal.returns-then-not-entries_room
+unfolding refusals
+returns-then-not-entries_room c =
+    goes_on _ _ _ _ (le-leb _ _ c.if-n-gt-PARTICLES.false)
+    (goes_on _ _ _ _ (le-leb _ _ c.if-count-gt-ENTRIES.false)
+    (goes_on _ _ _ _ (passed _ _ c.room.ensures c.if-not-room.false-raw)
+    (stops _ _ _ (refused _ _ c.entries_room.ensures c.if-not-entries_room.true-raw))))
+
+pub all_below-requires : goal.all_below-requires
+all_below-requires c =
+    has_names _ _ _ _ _ (passed _ _ c.entries_room.ensures c.if-not-entries_room.false-raw)
+
+pub returns-then-not-all_below : goal.returns-then-not-all_below
+unfolding refusals
+returns-then-not-all_below c =
+    goes_on _ _ _ _ (le-leb _ _ c.if-n-gt-PARTICLES.false)
+    (goes_on _ _ _ _ (le-leb _ _ c.if-count-gt-ENTRIES.false)
+    (goes_on _ _ _ _ (passed _ _ c.room.ensures c.if-not-room.false-raw)
+    (goes_on _ _ _ _ (passed _ _ c.entries_room.ensures c.if-not-entries_room.false-raw)
+    (stops _ _ _ (refused _ _ c.all_below.ensures c.if-not-all_below.true-raw)))))
+
+pub table_ok-requires : goal.table_ok-requires
+table_ok-requires c =
+    (
+      c.if-n-gt-PARTICLES.false,
+      has_marks _ _ _ _ _ (passed _ _ c.entries_room.ensures c.if-not-entries_room.false-raw),
+      has_places _ _ _ _ _ _ (passed _ _ c.room.ensures c.if-not-room.false-raw),
+    )
+
+pub returns-then-not-table_ok : goal.returns-then-not-table_ok
+unfolding refusals
+returns-then-not-table_ok c =
+    goes_on _ _ _ _ (le-leb _ _ c.if-n-gt-PARTICLES.false)
+    (goes_on _ _ _ _ (le-leb _ _ c.if-count-gt-ENTRIES.false)
+    (goes_on _ _ _ _ (passed _ _ c.room.ensures c.if-not-room.false-raw)
+    (goes_on _ _ _ _ (passed _ _ c.entries_room.ensures c.if-not-entries_room.false-raw)
+    (goes_on _ _ _ _ (passed _ _ c.all_below.ensures c.if-not-all_below.false-raw)
+    (stops _ _ _ (refused _ _ c.table_ok.ensures c.if-not-table_ok.true-raw))))))
+
+pub returns : goal.returns
+unfolding refusals
+returns c =
+    goes_on _ _ _ _ (le-leb _ _ c.if-n-gt-PARTICLES.false)
+    (goes_on _ _ _ _ (le-leb _ _ c.if-count-gt-ENTRIES.false)
+    (goes_on _ _ _ _ (passed _ _ c.room.ensures c.if-not-room.false-raw)
+    (goes_on _ _ _ _ (passed _ _ c.entries_room.ensures c.if-not-entries_room.false-raw)
+    (goes_on _ _ _ _ (passed _ _ c.all_below.ensures c.if-not-all_below.false-raw)
+    (goes_on _ _ _ _ (passed _ _ c.table_ok.ensures c.if-not-table_ok.false-raw)
+    ends)))))

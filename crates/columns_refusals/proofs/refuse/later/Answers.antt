@@ -1,0 +1,70 @@
+use Rattle.law.specs.Refusal.{goes_on, stops, ends}
+use Rattle.law.specs.Truth.{refused, passed}
+use Rattle.matrix_shape.specs.Given.{held, pattern}
+use Rattle.columns_refusals.specs.Refusing.{later}
+use Rattle.columns_refusals.proofs.refuse.later.Goals as goal
+
+pub pattern_formed-requires : goal.pattern_formed-requires
+pattern_formed-requires c = let p = c.requires.roomy in (
+  p.few,
+  held _ _ _ _ p.room,
+)
+
+pub returns-then-not-pattern_formed : goal.returns-then-not-pattern_formed
+unfolding later
+returns-then-not-pattern_formed c = stops _ _ _ (refused _ _ c.pattern_formed.ensures c.if-not-pattern_formed.true-raw)
+
+pub table_ok-requires : goal.table_ok-requires
+table_ok-requires c = let p = c.requires in (
+  p.0.few,
+  p.1.0,
+  p.1.1,
+)
+
+pub returns-then-not-table_ok : goal.returns-then-not-table_ok
+unfolding later
+returns-then-not-table_ok c =
+    goes_on _ _ _ _ (passed _ _ c.pattern_formed.ensures c.if-not-pattern_formed.false-raw)
+    (stops _ _ _ (refused _ _ c.table_ok.ensures c.if-not-table_ok.true-raw))
+
+pub plan_fits-requires : goal.plan_fits-requires
+plan_fits-requires c =
+    let p = c.requires.roomy in
+    (record { pattern = pattern _ _ _ _ p.few p.room (passed _ _ c.pattern_formed.ensures c.if-not-pattern_formed.false-raw); laid = p.laid })
+
+pub returns-then-not-plan_fits : goal.returns-then-not-plan_fits
+unfolding later
+returns-then-not-plan_fits c =
+    goes_on _ _ _ _ (passed _ _ c.pattern_formed.ensures c.if-not-pattern_formed.false-raw)
+    (goes_on _ _ _ _ (passed _ _ c.table_ok.ensures c.if-not-table_ok.false-raw)
+    (stops _ _ _ (refused _ _ c.plan_fits.ensures c.if-not-plan_fits.true-raw)))
+
+pub plan_short-requires : goal.plan_short-requires
+plan_short-requires c = c.requires.roomy.laid
+
+pub returns-then-not-plan_short : goal.returns-then-not-plan_short
+unfolding later
+returns-then-not-plan_short c =
+    goes_on _ _ _ _ (passed _ _ c.pattern_formed.ensures c.if-not-pattern_formed.false-raw)
+    (goes_on _ _ _ _ (passed _ _ c.table_ok.ensures c.if-not-table_ok.false-raw)
+    (goes_on _ _ _ _ (passed _ _ c.plan_fits.ensures c.if-not-plan_fits.false-raw)
+    (stops _ _ _ (refused _ _ c.plan_short.ensures c.if-not-plan_short.true-raw))))
+
+pub returns-then-not-settings_ok : goal.returns-then-not-settings_ok
+unfolding later
+returns-then-not-settings_ok c =
+    goes_on _ _ _ _ (passed _ _ c.pattern_formed.ensures c.if-not-pattern_formed.false-raw)
+    (goes_on _ _ _ _ (passed _ _ c.table_ok.ensures c.if-not-table_ok.false-raw)
+    (goes_on _ _ _ _ (passed _ _ c.plan_fits.ensures c.if-not-plan_fits.false-raw)
+    (goes_on _ _ _ _ (passed _ _ c.plan_short.ensures c.if-not-plan_short.false-raw)
+    (stops _ _ _ (refused _ _ c.settings_ok.ensures c.if-not-settings_ok.true-raw)))))
+
+pub returns : goal.returns
+unfolding later
+returns c =
+    goes_on _ _ _ _ (passed _ _ c.pattern_formed.ensures c.if-not-pattern_formed.false-raw)
+    (goes_on _ _ _ _ (passed _ _ c.table_ok.ensures c.if-not-table_ok.false-raw)
+    (goes_on _ _ _ _ (passed _ _ c.plan_fits.ensures c.if-not-plan_fits.false-raw)
+    (goes_on _ _ _ _ (passed _ _ c.plan_short.ensures c.if-not-plan_short.false-raw)
+    (goes_on _ _ _ _ (passed _ _ c.settings_ok.ensures c.if-not-settings_ok.false-raw)
+    ends))))

@@ -1,0 +1,21 @@
+use mathlib.Core.Path.{◌≡◌, refl}
+use Prim.Native.Nat.{◌-◌, ◌≤◌, zero-le}
+use lib.Dec.{eqb}
+use Rattle.law.specs.Loop.{over_none, over_turn, over_done}
+use Rattle.law.specs.Every.{every}
+use Rattle.matrix_shape.specs.Rows.{at}
+use borrow.Author.Rules.{rules}
+use Rattle.columns_table.proofs.table.each_once.Goals as goal
+
+pub loop-c-init : goal.loop-c-init
+unfolding every
+loop-c-init c = (zero-le, over_none _ 0 _)
+
+pub loop-c-preserved : goal.loop-c-preserved
+unfolding every
+loop-c-preserved c = (search rules, over_turn _ 0 _ _ _ _ zero-le c.loop-c.invariant.1 refl)
+
+pub returns : goal.returns
+unfolding every
+returns c =
+    over_done _ 0 _ _ _ _ c.loop-c.invariant.1 c.loop-c.invariant.0 c.loop-c-test.false

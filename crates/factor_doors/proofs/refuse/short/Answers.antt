@@ -1,0 +1,5 @@
+use borrow.Author.Rules.{rules}
+use Rattle.factor_doors.proofs.refuse.short.Goals as goal
+
+pub returns : goal.returns
+returns c = rw c.factor_len.ensures

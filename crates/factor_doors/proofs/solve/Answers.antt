@@ -1,0 +1,16 @@
+use mathlib.Core.Path.{sym, ◌∙◌, refl}
+use Rattle.law.specs.Promise.{refuses, accepts}
+use Rattle.factor_doors.specs.Solving.{door, ready}
+use borrow.Author.Rules.{rules}
+use Rattle.factor_doors.proofs.solve.Goals as goal
+
+pub returns-then-no-ne0 : goal.returns-then-no-ne0
+returns-then-no-ne0 c = refuses door _ _ c.solving-no.ensures c.if-no-ne0.true
+
+pub solve-requires : goal.solve-requires
+solve-requires c =
+    ready _ (sym c.solving-no.ensures ∙ c.if-no-ne0.false)
+
+pub returns : goal.returns
+returns c =
+    accepts door _ _ c.solving-no.ensures c.if-no-ne0.false _ c.solve.ensures

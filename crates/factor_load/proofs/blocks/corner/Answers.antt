@@ -1,0 +1,13 @@
+use mathlib.Core.Path.{refl}
+use lib.ListN.{length-set}
+use Rattle.factor_load.specs.Load.{corner_of}
+use borrow.Author.Rules.{rules}
+use native.Mathlib.Omega.{arith}
+use Rattle.factor_load.proofs.blocks.corner.Goals as goal
+
+pub bounds-values-down : goal.bounds-values-down
+bounds-values-down c = simp length-set (omega arith)
+
+pub returns : goal.returns
+unfolding corner_of
+returns c = refl

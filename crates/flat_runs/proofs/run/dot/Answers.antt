@@ -1,0 +1,19 @@
+use mathlib.Core.Path.{◌≡◌, refl}
+use Prim.Native.Nat.{◌-◌, ◌≤◌, zero-le}
+use Rattle.law.specs.Loop.{over, over_none, over_turn, over_done}
+use Rattle.plane.specs.Plane.{zero32}
+use Rattle.flat_runs.specs.Run.{run_step, dot_run}
+use borrow.Author.Rules.{rules}
+use Rattle.flat_runs.proofs.run.dot.Goals as goal
+
+pub loop-c-init : goal.loop-c-init
+loop-c-init c = (zero-le, over_none _ 0 _)
+
+pub loop-c-preserved : goal.loop-c-preserved
+loop-c-preserved c =
+    (search rules, over_turn _ 0 _ _ _ _ zero-le c.loop-c.invariant.1 refl)
+
+pub returns : goal.returns
+unfolding dot_run
+returns c =
+    over_done _ 0 _ _ _ _ c.loop-c.invariant.1 c.loop-c.invariant.0 c.loop-c-test.false

@@ -1,0 +1,50 @@
+use borrow.Author.Tests.{le-leb, lt-leb}
+use Rattle.law.specs.Refusal.{goes_on, stops, ends}
+use Rattle.law.specs.Truth.{refused, passed}
+use Rattle.matrix_shape.specs.Given.{held}
+use Rattle.gradient_refusals.specs.Updating.{refusals}
+use borrow.Author.Rules.{rules}
+use Rattle.gradient_refusals.proofs.refuse.updating.Goals as goal
+
+pub returns-then-n-gt-PARTICLES : goal.returns-then-n-gt-PARTICLES
+unfolding refusals
+returns-then-n-gt-PARTICLES c =
+    stops _ _ _ (lt-leb _ _ c.if-n-gt-PARTICLES.true)
+
+pub returns-then-not-pattern_room : goal.returns-then-not-pattern_room
+unfolding refusals
+returns-then-not-pattern_room c =
+    goes_on _ _ _ _ (le-leb _ _ c.if-n-gt-PARTICLES.false)
+    (stops _ _ _ (refused _ _ c.pattern_room.ensures c.if-not-pattern_room.true-raw))
+
+pub inverses_room-requires : goal.inverses_room-requires
+inverses_room-requires c =
+    (c.if-n-gt-PARTICLES.false, (held _ _ _ _ (passed _ _ c.pattern_room.ensures c.if-not-pattern_room.false-raw)).places)
+
+pub returns-then-not-inverses_room : goal.returns-then-not-inverses_room
+unfolding refusals
+returns-then-not-inverses_room c =
+    goes_on _ _ _ _ (le-leb _ _ c.if-n-gt-PARTICLES.false)
+    (goes_on _ _ _ _ (passed _ _ c.pattern_room.ensures c.if-not-pattern_room.false-raw)
+    (stops _ _ _ (refused _ _ c.inverses_room.ensures c.if-not-inverses_room.true-raw)))
+
+pub pattern_formed-requires : goal.pattern_formed-requires
+pattern_formed-requires c =
+    (c.if-n-gt-PARTICLES.false, held _ _ _ _ (passed _ _ c.pattern_room.ensures c.if-not-pattern_room.false-raw))
+
+pub returns-then-not-pattern_formed : goal.returns-then-not-pattern_formed
+unfolding refusals
+returns-then-not-pattern_formed c =
+    goes_on _ _ _ _ (le-leb _ _ c.if-n-gt-PARTICLES.false)
+    (goes_on _ _ _ _ (passed _ _ c.pattern_room.ensures c.if-not-pattern_room.false-raw)
+    (goes_on _ _ _ _ (passed _ _ c.inverses_room.ensures c.if-not-inverses_room.false-raw)
+    (stops _ _ _ (refused _ _ c.pattern_formed.ensures c.if-not-pattern_formed.true-raw))))
+
+pub returns : goal.returns
+unfolding refusals
+returns c =
+    goes_on _ _ _ _ (le-leb _ _ c.if-n-gt-PARTICLES.false)
+    (goes_on _ _ _ _ (passed _ _ c.pattern_room.ensures c.if-not-pattern_room.false-raw)
+    (goes_on _ _ _ _ (passed _ _ c.inverses_room.ensures c.if-not-inverses_room.false-raw)
+    (goes_on _ _ _ _ (passed _ _ c.pattern_formed.ensures c.if-not-pattern_formed.false-raw)
+    ends)))

@@ -1,0 +1,44 @@
+use borrow.Author.Tests.{le-leb, lt-leb}
+use Rattle.law.specs.Refusal.{goes_on, stops, ends}
+use Rattle.law.specs.Truth.{refused, passed}
+use Rattle.matrix_building.specs.Building.{refusals, pairs_room}
+use borrow.Author.Rules.{rules}
+use Rattle.matrix_building.proofs.refuse.building.Goals as goal
+
+pub returns-then-n-gt-PARTICLES : goal.returns-then-n-gt-PARTICLES
+unfolding refusals
+returns-then-n-gt-PARTICLES c =
+    stops _ _ _ (lt-leb _ _ c.if-n-gt-PARTICLES.true)
+
+pub returns-then-count-gt-PAIRS : goal.returns-then-count-gt-PAIRS
+unfolding refusals
+returns-then-count-gt-PAIRS c =
+    goes_on _ _ _ _ (le-leb _ _ c.if-n-gt-PARTICLES.false)
+    (stops _ _ _ (lt-leb _ _ c.if-count-gt-PAIRS.true))
+
+pub returns-then-not-lists_room : goal.returns-then-not-lists_room
+unfolding refusals
+returns-then-not-lists_room c =
+    goes_on _ _ _ _ (le-leb _ _ c.if-n-gt-PARTICLES.false)
+    (goes_on _ _ _ _ (le-leb _ _ c.if-count-gt-PAIRS.false)
+    (stops _ _ _ (refused _ _ c.lists_room.ensures c.if-not-lists_room.true-raw)))
+
+pub pairs_ok-requires : goal.pairs_ok-requires
+pairs_ok-requires c = pairs_room _ (passed _ _ c.lists_room.ensures c.if-not-lists_room.false-raw)
+
+pub returns-then-not-pairs_ok : goal.returns-then-not-pairs_ok
+unfolding refusals
+returns-then-not-pairs_ok c =
+    goes_on _ _ _ _ (le-leb _ _ c.if-n-gt-PARTICLES.false)
+    (goes_on _ _ _ _ (le-leb _ _ c.if-count-gt-PAIRS.false)
+    (goes_on _ _ _ _ (passed _ _ c.lists_room.ensures c.if-not-lists_room.false-raw)
+    (stops _ _ _ (refused _ _ c.pairs_ok.ensures c.if-not-pairs_ok.true-raw))))
+
+pub returns : goal.returns
+unfolding refusals
+returns c =
+    goes_on _ _ _ _ (le-leb _ _ c.if-n-gt-PARTICLES.false)
+    (goes_on _ _ _ _ (le-leb _ _ c.if-count-gt-PAIRS.false)
+    (goes_on _ _ _ _ (passed _ _ c.lists_room.ensures c.if-not-lists_room.false-raw)
+    (goes_on _ _ _ _ (passed _ _ c.pairs_ok.ensures c.if-not-pairs_ok.false-raw)
+    ends)))

@@ -1,0 +1,17 @@
+use mathlib.Core.Path.{sym, ◌∙◌, refl}
+use Rattle.law.specs.Promise.{refuses, accepts}
+use Rattle.matrix_building.specs.Building as building
+use borrow.Author.Rules.{rules}
+use Rattle.matrix_doors.proofs.pattern_from_pairs.Goals as goal
+
+pub returns-then-no-ne0 : goal.returns-then-no-ne0
+returns-then-no-ne0 c = refuses building.door _ _ c.building-no.ensures c.if-no-ne0.true
+
+pub build-m-requires : goal.build-m-requires
+build-m-requires c =
+    let r = building.ready _ (sym c.building-no.ensures ∙ c.if-no-ne0.false) in
+    r
+
+pub returns : goal.returns
+returns c =
+    accepts building.door _ _ c.building-no.ensures c.if-no-ne0.false _ c.build-m.ensures

@@ -1,0 +1,8 @@
+use Rattle.law.specs.Room.{enough}
+use Rattle.matrix_shape.specs.Given.{blocks_room}
+use borrow.Author.Rules.{rules}
+use Rattle.matrix_doors.proofs.refuse.blocks_room.Goals as goal
+
+pub returns : goal.returns
+unfolding enough blocks_room
+returns c = rw c.wide.ensures.same

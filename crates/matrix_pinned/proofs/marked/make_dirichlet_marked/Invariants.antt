@@ -1,0 +1,15 @@
+use mathlib.Core.Path.{◌≡◌, refl, ◌∙◌}
+use Prim.Native.Nat.{◌-◌, ◌≤◌, zero-le}
+use native.Mathlib.Omega.{arith}
+use lib.ListN.{length}
+use Rattle.law.specs.Loop.{over, over_none, over_turn, over_done}
+use Rattle.matrix_pinned.specs.Marked.{pin_step, pinned_marked}
+use borrow.Author.Rules.{rules}
+use Rattle.matrix_pinned.proofs.marked.make_dirichlet_marked.Given as goal
+
+abbrev pub invariant-loop-row : goal.invariant-loop-row
+invariant-loop-row l = (l.row ≤ l.n) × (l.blocks ≡ over (pin_step l.n l.row_offsets l.cols l.marks) 0 l.row l.initial.blocks)
+    × (length l.blocks ≡ length l.initial.blocks)
+
+abbrev pub decreases-loop-row : goal.decreases-loop-row
+decreases-loop-row l = l.n - l.row

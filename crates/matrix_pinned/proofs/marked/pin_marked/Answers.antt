@@ -1,0 +1,15 @@
+use Rattle.matrix_pinned.specs.Marked.{pins, skips}
+use borrow.Author.Rules.{rules}
+use Rattle.matrix_pinned.proofs.marked.pin_marked.Goals as goal
+
+pub make_dirichlet-requires : goal.make_dirichlet-requires
+make_dirichlet-requires c =
+    let p = c.requires in
+    (record { pattern = p.0.pattern; row_lt_n = p.1; n_in_bounds = p.0.blocks })
+
+pub returns-then-marks-row-ne0 : goal.returns-then-marks-row-ne0
+returns-then-marks-row-ne0 c =
+    pins _ _ _ _ _ _ _ c.if-marks-row-ne0.true c.make_dirichlet.ensures
+
+pub returns-else-marks-row-ne0 : goal.returns-else-marks-row-ne0
+returns-else-marks-row-ne0 c = skips _ _ _ _ _ _ c.if-marks-row-ne0.false

@@ -1,0 +1,14 @@
+use mathlib.Core.Path.{◌≡◌}
+use Prim.Native.Nat.{◌+◌, ◌-◌, ◌≤◌}
+use native.Mathlib.Omega.{arith}
+use borrow.Author.Rules.{rules}
+use Rattle.matrix_shape.specs.Formed.{InRow}
+use Rattle.matrix_shape.specs.Rows.{at, row_end}
+use Rattle.matrix_pinned.specs.Mirrors.{Crossed, cross_none, cross_at, cross_more, pinned_is}
+use Rattle.matrix_pinned.proofs.pinned.make_dirichlet.Given as goal
+
+abbrev pub invariant-loop-k : goal.invariant-loop-k
+invariant-loop-k l = (l.start ≤ l.k) × (l.k ≤ l.end) × Crossed l.row_offsets l.cols l.n l.row l.initial.blocks l.k l.blocks
+
+abbrev pub decreases-loop-k : goal.decreases-loop-k
+decreases-loop-k l = l.end - l.k

@@ -1,0 +1,46 @@
+use native.Mathlib.Omega.{arith}
+use Prim.Native.Nat.{◌-◌, ◌<◌}
+use mathlib.Core.Path.{◌≡◌}
+use borrow.Author.Rules.{rules}
+use Rattle.matrix_shape.specs.Rows.{at}
+use Rattle.matrix_shape.specs.Search.{kept, Searched, searched_all, searched_half, searched_four, search_none, search_hit, search_miss}
+use Rattle.matrix_shape.proofs.index.searched.Goals as goal
+
+pub returns-then-b-a : goal.returns-then-b-a
+returns-then-b-a c = search_none _ _ _ _ c.if-b-a.true
+
+pub loop-size-init : goal.loop-size-init
+loop-size-init c = searched_all _ _ _ _ c.if-b-a.false
+
+pub one-low-requires : goal.one-low-requires
+one-low-requires c =
+    (c.loop-size.invariant.some, omega (arith, c.loop-size.invariant.last, c.requires.0))
+
+pub loop-size-preserved : goal.loop-size-preserved
+loop-size-preserved c = rw c.one-low.ensures (searched_half _ _ _ _ _ _ c.loop-size.invariant)
+
+pub near-slot-requires : goal.near-slot-requires
+near-slot-requires c =
+    (c.loop-size.invariant.some, c.loop-size-test.false, omega (arith, c.loop-size.invariant.last, c.requires.0))
+
+-- one slot is left, below b
+left_is : (c : goal.After-near-slot) → (let s = c.args in
+    (c.near-slot.result ≡ kept (at s.cols.now) s.col s.a (s.b - s.a)) × (c.near-slot.result < s.b))
+left_is c = rw c.near-slot.ensures (searched_four _ _ _ _ _ _ c.loop-size-test.false c.loop-size.invariant)
+
+pub offset_bounds-cols-slot : goal.offset_bounds-cols-slot
+offset_bounds-cols-slot c = omega (arith, (left_is c).1, c.requires.1)
+
+pub bounds-cols-slot : goal.bounds-cols-slot
+bounds-cols-slot c = omega (arith, (left_is c).1, c.requires.0)
+
+pub returns-then-cols-slot : goal.returns-then-cols-slot
+returns-then-cols-slot c =
+    search_miss _ _ _ _ _ c.if-b-a.false (left_is c).0 c.if-cols-slot.true
+
+pub overflow_cast-result : goal.overflow_cast-result
+overflow_cast-result c = omega (arith, (left_is c).1, c.requires.1)
+
+pub returns : goal.returns
+returns c =
+    search_hit _ _ _ _ _ c.if-b-a.false (left_is c).0 c.if-cols-slot.false

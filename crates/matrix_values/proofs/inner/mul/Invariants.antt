@@ -1,0 +1,15 @@
+use mathlib.Core.Path.{◌≡◌, refl, ◌∙◌}
+use Prim.Native.Nat.{◌+◌, ◌*◌, ◌-◌, ◌≤◌, zero-le}
+use native.Mathlib.Omega.{arith}
+use borrow.Author.Rules.{rules}
+use lib.ListN.{length}
+use Rattle.law.specs.Mix.{mix, mix_none, turn_stores}
+use Rattle.matrix_shape.specs.Rows.{at}
+use Rattle.matrix_values.specs.Product.{product_at, row_reach}
+use Rattle.matrix_values.proofs.inner.mul.Given as goal
+
+abbrev pub invariant-loop-r : goal.invariant-loop-r
+invariant-loop-r l =     (l.r ≤ l.n) × (l.start ≡ at l.row_offsets l.r) × (l.out ≡ mix 2 l.r (product_at l.row_offsets l.cols l.blocks l.x) l.initial.out) × (length l.out ≡ length l.initial.out)
+
+abbrev pub decreases-loop-r : goal.decreases-loop-r
+decreases-loop-r l = l.n - l.r

@@ -1,0 +1,14 @@
+use mathlib.Core.Path.{◌≡◌, refl}
+use Prim.Native.Nat.{◌-◌, ◌≤◌, zero-le}
+use borrow.Author.Rules.{rules}
+use Rattle.law.specs.Loop.{over_none, over_turn, over_done}
+use Rattle.law.specs.Every.{every}
+use Rattle.matrix_walk.specs.Cursors.{end_ok}
+use Rattle.matrix_shape.specs.Rows.{at}
+use Rattle.matrix_walk.proofs.rows.ends_ok.Given as goal
+
+abbrev pub invariant-loop-r : goal.invariant-loop-r
+invariant-loop-r l = (l.r ≤ l.n) × (l.ok ≡ every (end_ok (at l.next) (at l.row_offsets)) 0 l.r)
+
+abbrev pub decreases-loop-r : goal.decreases-loop-r
+decreases-loop-r l = l.n - l.r

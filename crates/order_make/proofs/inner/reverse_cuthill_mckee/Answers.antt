@@ -1,0 +1,21 @@
+use Prim.Native.Nat.{ℕ}
+use mathlib.Core.Path.{refl, ap, ◌∙◌}
+use lib.ListN.{replicate}
+use Rattle.order_make.proofs.Whole.{rows_rise, place_asks, order_is}
+use borrow.Author.Rules.{rules}
+use Rattle.order_make.proofs.inner.reverse_cuthill_mckee.Goals as goal
+
+pub fill_degrees-requires : goal.fill_degrees-requires
+fill_degrees-requires c =
+    rows_rise _ _ _ _ c.requires.tight c.requires.degrees_len
+
+pub place_all-requires : goal.place_all-requires
+place_all-requires c =
+    let z = c.clear in
+    place_asks _ _ _ _ c.args.placed.now _ c.args.level.now c.args.queue.now _ c.requires.tight c.requires.queue_len_bound
+    (z.auto.0 ∙ c.requires.mark_len) c.requires.level_len refl c.fill_degrees.ensures c.requires.degrees_len c.requires.placed_len (z.ensures ∙ ap (λ (k : ℕ). replicate k 0) c.requires.mark_len)
+
+pub returns : goal.returns
+returns c =
+    order_is _ _ _ _ _ _ (c.clear.auto.0 ∙ c.requires.mark_len)
+    c.reverse_into.ensures c.place_all.ensures

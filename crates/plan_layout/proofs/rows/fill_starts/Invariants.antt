@@ -1,0 +1,14 @@
+use borrow.Author.Rules.{rules}
+use mathlib.Core.Path.{◌≡◌, refl, sym, ap, ◌∙◌}
+use Prim.Native.Nat.{ℕ, ◌+◌, ◌*◌, ◌-◌, ◌≤◌, zero-le}
+use native.Mathlib.Omega.{arith}
+use lib.ListN.{length, length-set}
+use Rattle.law.specs.Gather.{table, length_table}
+use Rattle.law.specs.Store.{written, write_none, written_whole, table_turn}
+use Rattle.matrix_shape.specs.Rows.{at}
+use Rattle.plan_layout.specs.Starts.{start_at, start_none, start_more}
+use Rattle.plan_layout.proofs.rows.fill_starts.Given as goal
+
+abbrev pub invariant-loop-r : goal.invariant-loop-r
+invariant-loop-r l = (l.r ≤ l.r-end) × (l.next ≤ 4096 * l.r) × (l.next ≡ start_at (at l.first) l.r)
+    × (l.row_start ≡ written l.initial.row_start 0 (table (start_at (at l.first)) l.r)) × (length l.row_start ≡ length l.initial.row_start)

@@ -1,0 +1,11 @@
+use borrow.Author.Rules.{rules}
+use mathlib.Core.Path.{◌≡◌, refl}
+use Prim.Native.Nat.{ℕ, ◌-◌, ◌≤◌, ◌<◌, zero-le}
+use native.Mathlib.Omega.{arith}
+use lib.ListN.{length, length-set}
+use Rattle.matrix_shape.specs.Rows.{at}
+use Rattle.plan_layout.specs.EachOnce.{place_put, places_are}
+use Rattle.plan_layout.proofs.tables.invert.Given as goal
+
+abbrev pub invariant-loop-i : goal.invariant-loop-i
+invariant-loop-i l = (l.i ≤ l.i-end) × (length l.inverse ≡ length l.initial.inverse) × ((j : ℕ) → j < l.i → at l.inverse (at l.order j) ≡ j)

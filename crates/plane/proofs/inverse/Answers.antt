@@ -1,0 +1,5 @@
+use borrow.Author.Rules.{rules}
+use Rattle.plane.proofs.inverse.Goals as goal
+
+pub returns : goal.returns
+returns c = rw c.determinant-r.ensures

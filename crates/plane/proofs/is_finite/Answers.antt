@@ -1,0 +1,5 @@
+use borrow.Author.Rules.{rules}
+use Rattle.plane.proofs.is_finite.Goals as goal
+
+pub returns : goal.returns
+returns c = cc

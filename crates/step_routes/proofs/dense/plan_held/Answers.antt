@@ -1,0 +1,23 @@
+use Rattle.law.specs.Refusal.{skips, applies}
+use Rattle.law.specs.Truth.{refused, passed}
+use Rattle.plan_fits.specs.Given.{laid}
+use Rattle.step_routes.specs.Dense.{plan_held}
+use borrow.Author.Rules.{rules}
+use Rattle.step_routes.proofs.dense.plan_held.Goals as goal
+
+pub returns-then-not-dense : goal.returns-then-not-dense
+returns-then-not-dense c = skips _ _ c.if-not-dense.true-raw
+
+pub returns-then-not-plan_room : goal.returns-then-not-plan_room
+unfolding plan_held
+returns-then-not-plan_room c = applies _ _ _ c.if-not-dense.false-raw (rw (refused _ _ c.plan_room.ensures c.if-not-plan_room.true-raw))
+
+pub factor_len-requires : goal.factor_len-requires
+factor_len-requires c =
+    let few = c.requires in
+    (few, (laid _ _ _ _ _ few (passed _ _ c.plan_room.ensures c.if-not-plan_room.false-raw)).begins)
+
+pub returns : goal.returns
+unfolding plan_held
+returns c =
+    applies _ _ _ c.if-not-dense.false-raw (rw (passed _ _ c.plan_room.ensures c.if-not-plan_room.false-raw, c.factor_len.ensures))

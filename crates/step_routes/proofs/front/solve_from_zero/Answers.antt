@@ -1,0 +1,12 @@
+use mathlib.Core.Path.{◌∙◌}
+use Rattle.gradient_doors.specs.Solving.{ready_with}
+use borrow.Author.Rules.{rules}
+use Rattle.step_routes.proofs.front.solve_from_zero.Goals as goal
+
+pub solve-requires : goal.solve-requires
+solve-requires c =
+    ready_with _ _ c.clear.auto.1.0 c.requires
+
+pub returns : goal.returns
+returns c =
+    rw (← c.clear.ensures) c.solve.ensures

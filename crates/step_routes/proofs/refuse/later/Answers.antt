@@ -1,0 +1,18 @@
+use Rattle.law.specs.Refusal.{goes_on, stops, ends}
+use Rattle.law.specs.Truth.{refused, passed}
+use Rattle.step_routes.specs.Dense.{ends_early, by_settings}
+use borrow.Author.Rules.{rules}
+use Rattle.step_routes.proofs.refuse.later.Goals as goal
+
+pub returns-then-no-ne0 : goal.returns-then-no-ne0
+returns-then-no-ne0 c = ends_early _ _ _ _ _ _ _ _ _ _ _ _ c.structure-no.ensures c.if-no-ne0.true
+
+pub returns-then-not-settings_ok : goal.returns-then-not-settings_ok
+returns-then-not-settings_ok c =
+    by_settings _ _ _ _ _ _ _ _ _ _ _ _ c.structure-no.ensures _ c.if-no-ne0.false
+    (stops _ _ _ (refused _ _ c.settings_ok.ensures c.if-not-settings_ok.true-raw))
+
+pub returns : goal.returns
+returns c =
+    by_settings _ _ _ _ _ _ _ _ _ _ _ _ c.structure-no.ensures _ c.if-no-ne0.false
+    (goes_on _ _ _ _ (passed _ _ c.settings_ok.ensures c.if-not-settings_ok.false-raw) ends)

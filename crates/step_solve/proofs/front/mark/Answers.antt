@@ -1,0 +1,16 @@
+use borrow.Author.Tests.{le-leb, lt-leb}
+use Rattle.step_solve.specs.Marking.{factored, unfactored}
+use borrow.Author.Rules.{rules}
+use Rattle.step_solve.proofs.front.mark.Goals as goal
+
+pub factorize-how-requires : goal.factorize-how-requires
+factorize-how-requires c =
+    c.requires.planned (le-leb _ _ c.if-n-max_dense_dofs.true)
+
+pub returns-then-n-max_dense_dofs : goal.returns-then-n-max_dense_dofs
+returns-then-n-max_dense_dofs c =
+    factored _ _ _ _ _ (le-leb _ _ c.if-n-max_dense_dofs.true) c.factorize-how.ensures c.settle.ensures
+
+pub returns : goal.returns
+returns c =
+    unfactored _ _ (lt-leb _ _ c.if-n-max_dense_dofs.false) c.update_preconditioner.ensures

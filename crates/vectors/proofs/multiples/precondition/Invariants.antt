@@ -1,0 +1,12 @@
+use mathlib.Core.Path.{refl}
+use Prim.Native.Nat.{◌-◌}
+use borrow.Author.Rules.{rules}
+use Rattle.vectors.specs.Whole.{Front, front_none, front_turn, front_done}
+use Rattle.vectors.specs.Multiples.{preconditioned_at}
+use Rattle.vectors.proofs.multiples.precondition.Given as goal
+
+abbrev pub invariant-loop-k : goal.invariant-loop-k
+invariant-loop-k l = Front (preconditioned_at l.p l.r) l.n l.k l.initial.z l.z
+
+abbrev pub decreases-loop-k : goal.decreases-loop-k
+decreases-loop-k l = l.n - l.k
