@@ -1,8 +1,8 @@
 use native.Mathlib.Omega.{arith}
-use Prim.Native.Nat.{◌-◌, ◌<◌}
+use Rattle.std.specs.Prelude.{ℕ, ◌-◌, ◌<◌, ◌≤◌}
 use mathlib.Core.Path.{◌≡◌}
-use borrow.Author.Rules.{rules}
 use Rattle.matrix_shape.specs.Rows.{at}
+use Rattle.matrix_shape.specs.Halving.{halved}
 use Rattle.matrix_shape.specs.Search.{kept, Searched, searched_all, searched_half, searched_four, search_none, search_hit, search_miss}
 use Rattle.matrix_shape.proofs.index.searched.Goals as goal
 
@@ -24,23 +24,28 @@ near-slot-requires c =
     (c.loop-size.invariant.some, c.loop-size-test.false, omega (arith, c.loop-size.invariant.last, c.requires.0))
 
 -- one slot is left, below b
-left_is : (c : goal.After-near-slot) → (let s = c.args in
-    (c.near-slot.result ≡ kept (at s.cols.now) s.col s.a (s.b - s.a)) × (c.near-slot.result < s.b))
-left_is c = rw c.near-slot.ensures (searched_four _ _ _ _ _ _ c.loop-size-test.false c.loop-size.invariant)
+left_is : (f : ℕ → ℕ) (a b col low size r : ℕ) → r ≡ halved f col 4 low size → size ≤ 16 → Searched f a b col low size
+    → (r ≡ kept f col a (b - a)) × (r < b)
+left_is f a b col low size r e few s = rw e (searched_four f a b col low size few s)
 
 pub offset_bounds-cols-slot : goal.offset_bounds-cols-slot
-offset_bounds-cols-slot c = omega (arith, (left_is c).1, c.requires.1)
+offset_bounds-cols-slot c =
+    omega (arith, (left_is _ _ _ _ _ _ _ c.near-slot.ensures c.loop-size-test.false c.loop-size.invariant).1, c.requires.1)
 
 pub bounds-cols-slot : goal.bounds-cols-slot
-bounds-cols-slot c = omega (arith, (left_is c).1, c.requires.0)
+bounds-cols-slot c =
+    omega (arith, (left_is _ _ _ _ _ _ _ c.near-slot.ensures c.loop-size-test.false c.loop-size.invariant).1, c.requires.0)
 
 pub returns-then-cols-slot : goal.returns-then-cols-slot
 returns-then-cols-slot c =
-    search_miss _ _ _ _ _ c.if-b-a.false (left_is c).0 c.if-cols-slot.true
+    search_miss _ _ _ _ _ c.if-b-a.false (left_is _ _ _ _ _ _ _ c.near-slot.ensures c.loop-size-test.false c.loop-size.invariant).0
+    c.if-cols-slot.true
 
 pub overflow_cast-result : goal.overflow_cast-result
-overflow_cast-result c = omega (arith, (left_is c).1, c.requires.1)
+overflow_cast-result c =
+    omega (arith, (left_is _ _ _ _ _ _ _ c.near-slot.ensures c.loop-size-test.false c.loop-size.invariant).1, c.requires.1)
 
 pub returns : goal.returns
 returns c =
-    search_hit _ _ _ _ _ c.if-b-a.false (left_is c).0 c.if-cols-slot.false
+    search_hit _ _ _ _ _ c.if-b-a.false (left_is _ _ _ _ _ _ _ c.near-slot.ensures c.loop-size-test.false c.loop-size.invariant).0
+    c.if-cols-slot.false
