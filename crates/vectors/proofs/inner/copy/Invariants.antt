@@ -1,8 +1,6 @@
-use mathlib.Core.Path.{refl}
 use Prim.Native.Nat.{◌-◌}
-use borrow.Author.Rules.{rules}
 use Rattle.plane.specs.Lent.{vector_at}
-use Rattle.vectors.specs.Whole.{Front, front_none, front_turn, front_done}
+use Rattle.vectors.specs.Whole.{Front}
 use Rattle.vectors.proofs.inner.copy.Given as goal
 
 abbrev pub invariant-loop-k : goal.invariant-loop-k

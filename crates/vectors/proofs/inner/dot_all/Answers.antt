@@ -1,21 +1,18 @@
-use mathlib.Core.Path.{◌≡◌}
-use Prim.Native.Nat.{◌-◌, ◌≤◌, zero-le}
+use Prim.Native.Nat.{zero-le}
 use borrow.Author.Rules.{rules}
-use Rattle.law.specs.Loop.{over, over_none, over_turn, over_done}
-use Rattle.plane.specs.Plane.{zero32}
-use Rattle.vectors.specs.Whole.{dot_step, dot_all}
+use Rattle.law.specs.Loop.{over_none, over_turn, over_done}
+use Rattle.vectors.specs.Whole.{dot_all}
 use Rattle.vectors.proofs.inner.dot_all.Goals as goal
 
 pub loop-k-init : goal.loop-k-init
 loop-k-init c = (zero-le, over_none _ 0 _)
 
 pub loop-k-preserved : goal.loop-k-preserved
-loop-k-preserved c =
-    (
-      search rules,
-      over_turn _ 0 _ _ _ _ zero-le c.loop-k.invariant.1
-          (rw (c.dot-sum.ensures, c.vector_at-in-loop-k.ensures, c.vector_at.ensures)),
-    )
+loop-k-preserved c = (
+  search rules,
+  over_turn _ 0 _ _ _ _ zero-le c.loop-k.invariant.1
+      (rw (c.dot-sum.ensures, c.vector_at-in-loop-k.ensures, c.vector_at.ensures)),
+)
 
 pub returns : goal.returns
 unfolding dot_all

@@ -1,9 +1,8 @@
 use mathlib.Core.Path.{◌≡◌}
-use Prim.Native.Nat.{◌-◌, ◌≤◌, zero-le}
-use borrow.Author.Rules.{rules}
-use Rattle.law.specs.Loop.{over, over_none, over_turn, over_done}
+use Prim.Native.Nat.{◌-◌, ◌≤◌}
+use Rattle.law.specs.Loop.{over}
 use Rattle.plane.specs.Plane.{zero32}
-use Rattle.vectors.specs.Whole.{dot_step, dot_all}
+use Rattle.vectors.specs.Whole.{dot_step}
 use Rattle.vectors.proofs.inner.dot_all.Given as goal
 
 abbrev pub invariant-loop-k : goal.invariant-loop-k

@@ -1,7 +1,5 @@
 use mathlib.Core.Path.{refl, ◌∙◌}
-use Prim.Native.Nat.{◌-◌}
-use borrow.Author.Rules.{rules}
-use Rattle.vectors.specs.Whole.{lack_at, Front, front_none, front_turn, front_done}
+use Rattle.vectors.specs.Whole.{front_none, front_turn, front_done}
 use Rattle.vectors.proofs.inner.lack.Goals as goal
 
 pub loop-k-init : goal.loop-k-init
@@ -9,7 +7,7 @@ loop-k-init c = front_none _ (λ j. refl) _ _
 
 pub loop-k-preserved : goal.loop-k-preserved
 loop-k-preserved c =
-    front_turn _ (λ j. refl) _ _ _ _ _ _ c.loop-k.invariant c.loop-k-test.true c.requires.1 c.set_vector.ensures c.set_vector.auto.0
+    front_turn _ (λ j. refl) _ _ _ _ _ _ c.loop-k.invariant c.loop-k-test.true c.requires.1 c.set_vector.ensures c.set_vector.auto.s
     (λ e. (rw (c.sub.ensures, c.vector_at-in-loop-k.ensures ∙ e, c.vector_at.ensures)))
 
 pub returns : goal.returns

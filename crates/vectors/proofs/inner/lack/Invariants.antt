@@ -1,7 +1,5 @@
-use mathlib.Core.Path.{refl, ◌∙◌}
 use Prim.Native.Nat.{◌-◌}
-use borrow.Author.Rules.{rules}
-use Rattle.vectors.specs.Whole.{lack_at, Front, front_none, front_turn, front_done}
+use Rattle.vectors.specs.Whole.{lack_at, Front}
 use Rattle.vectors.proofs.inner.lack.Given as goal
 
 abbrev pub invariant-loop-k : goal.invariant-loop-k

@@ -2,7 +2,6 @@ use native.Mathlib.Omega.{arith}
 use native.Mathlib.Numerals.{add-one, add-two, add-three}
 use lib.ListN.{length-set}
 use Rattle.law.specs.Store.{written}
-use borrow.Author.Rules.{rules}
 use Rattle.vectors.proofs.inner.set_block.Goals as goal
 
 pub bounds-s-j-2 : goal.bounds-s-j-2

@@ -1,6 +1,5 @@
 use native.Mathlib.Numerals.{add-one}
 use Rattle.law.specs.Store.{written}
-use borrow.Author.Rules.{rules}
 use Rattle.vectors.proofs.inner.set_vector.Goals as goal
 
 pub returns : goal.returns

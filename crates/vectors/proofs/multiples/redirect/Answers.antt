@@ -1,8 +1,5 @@
 use mathlib.Core.Path.{refl, ◌∙◌}
-use Prim.Native.Nat.{◌-◌}
-use borrow.Author.Rules.{rules}
-use Rattle.vectors.specs.Whole.{Front, front_none, front_turn, front_done}
-use Rattle.vectors.specs.Multiples.{redirected_at}
+use Rattle.vectors.specs.Whole.{front_none, front_turn, front_done}
 use Rattle.vectors.proofs.multiples.redirect.Goals as goal
 
 pub loop-k-init : goal.loop-k-init
@@ -10,7 +7,7 @@ loop-k-init c = front_none _ (λ j. refl) _ _
 
 pub loop-k-preserved : goal.loop-k-preserved
 loop-k-preserved c =
-    front_turn _ (λ j. refl) _ _ _ _ _ _ c.loop-k.invariant c.loop-k-test.true c.requires.1 c.set_vector.ensures c.set_vector.auto.0
+    front_turn _ (λ j. refl) _ _ _ _ _ _ c.loop-k.invariant c.loop-k-test.true c.requires.1 c.set_vector.ensures c.set_vector.auto.s
     (λ e. (rw (
       c.add.ensures,
       c.scale.ensures,

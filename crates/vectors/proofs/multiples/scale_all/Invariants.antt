@@ -1,7 +1,5 @@
-use mathlib.Core.Path.{refl, ◌∙◌}
 use Prim.Native.Nat.{◌-◌}
-use borrow.Author.Rules.{rules}
-use Rattle.vectors.specs.Whole.{Front, front_none, front_turn, front_done}
+use Rattle.vectors.specs.Whole.{Front}
 use Rattle.vectors.specs.Multiples.{scaled_at}
 use Rattle.vectors.proofs.multiples.scale_all.Given as goal
 
