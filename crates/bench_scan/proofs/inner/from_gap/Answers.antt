@@ -1,6 +1,5 @@
 use mathlib.Core.Path.{sym, ◌∙◌}
 use native.Mathlib.Omega.{arith}
-use borrow.Author.Rules.{rules}
 use Rattle.bench_scan.specs.Scan.{from_gap}
 use Rattle.bench_scan.specs.Numbers.{digit_at}
 use Rattle.bench_scan.proofs.inner.from_gap.Goals as goal

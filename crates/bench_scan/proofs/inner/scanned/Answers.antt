@@ -1,11 +1,8 @@
-use mathlib.Core.Path.{◌≡◌, refl, ◌∙◌}
-use Prim.Native.Nat.{◌-◌, ◌≤◌}
+use mathlib.Core.Path.{refl, ◌∙◌}
 use native.Mathlib.Omega.{arith}
 use borrow.Author.Rules.{rules}
-use lib.ListN.{length, get_or}
-use Rattle.law.specs.Loop.{over, over_none, over_turn, over_done}
-use Rattle.bench_scan.specs.Scan.{State, state_to, count_of}
-use Rattle.bench_scan.specs.declared.inner.Scan.TheVariants.{Gap}
+use Rattle.law.specs.Loop.{over_none, over_turn, over_done}
+use Rattle.bench_scan.specs.Scan.{state_to}
 use Rattle.bench_scan.proofs.Turn.{count_after, room_long, scan_end}
 use Rattle.bench_scan.proofs.inner.scanned.Goals as goal
 
