@@ -8,7 +8,7 @@ use Rattle.step_tally.specs.declared.Kind.{Kind}
 use Rattle.step_tally.specs.declared.Kind.TheVariants.{Direct, Zero, Near, Converged, Curvature, Limit, Refused}
 use Rattle.step_tally.specs.declared.Asked.{Asked}
 use Rattle.step_tally.specs.declared.Asked.TheVariants.{Nothing, One}
-use Rattle.step_tally.specs.Count.{total_of, same, grown, one_more, added_to, counted_to}
+use Rattle.step_tally.specs.Count.{total_of, same, grown, one_more, counted_to}
 
 abbrev pub fresh : Tally
 fresh = record { direct = 0; zero = 0; near = 0; converged = 0; curvature = 0; limit = 0; refused = 0 }

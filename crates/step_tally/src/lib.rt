@@ -1,5 +1,5 @@
 // The tally of step solves (rules, module 7): seven counts that a caller lends, and one thin function that adds to one of them.
-// The work is `counted`, on a record by value; `count` is a walk by hand over it.
+// The work is `counted`, on a record by value; `count` is a thin function over it.
 #![tactic(auto)]
 
 ghost use Rattle.std.specs.Prelude.{◌≡◌};
