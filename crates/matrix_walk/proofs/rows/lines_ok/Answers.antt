@@ -82,7 +82,7 @@ pub bounds-next-r : goal.bounds-next-r
 bounds-next-r c = omega (
   arith,
   c.loop-r-test.true,
-  c.lower_ok.auto.1.1.1.1.1.0,
+  c.lower_ok.auto.next,
   c.loop-r.invariant.1,
   c.requires.cursors,
 )
@@ -91,18 +91,18 @@ pub loop-r-preserved : goal.loop-r-preserved
 loop-r-preserved c =
     let l = c.loop-r-test.true in
     let p = c.lower_ok in
-    let k : length p.new.1.1.1.1.1.0 ≡ length c.args.next.now = p.auto.1.1.1.1.1.0 ∙ c.loop-r.invariant.1 in
-    let room : c.loop-r.r < length p.new.1.1.1.1.1.0 = omega (arith, k, c.requires.cursors) in
+    let k : length p.new.next ≡ length c.args.next.now = p.auto.next ∙ c.loop-r.invariant.1 in
+    let room : c.loop-r.r < length p.new.next = omega (arith, k, c.requires.cursors) in
     let home = passed _ _ c.home_ok.ensures c.if-not-home_ok.false-raw in
     let pairs = passed _ _ p.ensures.tells c.if-not-lower_ok.false-raw in (
       search rules,
       rw length-set k,
       row_tested _ _ _ _ _ c.loop-r.r l _ _ _ c.wide-a.ensures.same c.wide-b.ensures.same
           c.wide-k.ensures.same c.loop-r.next c.loop-r.invariant.3
-          p.new.1.1.1.1.1.0 room c.loop-r.invariant.2 home pairs,
+          p.new.next room c.loop-r.invariant.2 home pairs,
       row_stands _ _ _ _ _ c.loop-r.r l _ _ _ c.wide-a.ensures.same c.wide-b.ensures.same
           c.wide-k.ensures.same c.loop-r.next c.loop-r.invariant.3
-          p.new.1.1.1.1.1.0 room c.loop-r.invariant.2 home pairs
+          p.new.next room c.loop-r.invariant.2 home pairs
           (p.ensures.moved (not-false _ c.if-not-lower_ok.false-raw)),
     )
 

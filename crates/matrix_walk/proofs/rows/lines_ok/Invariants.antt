@@ -14,7 +14,7 @@ use Rattle.matrix_walk.specs.Walk.{lined_not, row_no_home, row_no_pairs, row_tes
 use Rattle.matrix_walk.proofs.rows.lines_ok.Given as goal
 
 abbrev pub invariant-loop-r : goal.invariant-loop-r
-invariant-loop-r l =     (l.r ≤ l.n) × (length l.next ≡ length l.initial.next) × (every (line_ok l.m (at l.row_offsets) (at l.cols) (at l.diagonal)) 0 l.r ≡ true)
+invariant-loop-r l = (l.r ≤ l.n) × (length l.next ≡ length l.initial.next) × (every (line_ok l.m (at l.row_offsets) (at l.cols) (at l.diagonal)) 0 l.r ≡ true)
     × ((j : ℕ) → j < l.r → at l.next j ≡ cursor (at l.row_offsets) (at l.cols) (at l.diagonal) l.r j)
 
 abbrev pub decreases-loop-r : goal.decreases-loop-r

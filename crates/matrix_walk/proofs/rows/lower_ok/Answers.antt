@@ -36,16 +36,15 @@ overflow_cast-next c =
     omega (arith, c.requires.few, meet_low _ _ _ _ (passed _ _ c.meet_ok.ensures c.if-not-meet_ok.false-raw))
 
 pub loop-k-preserved : goal.loop-k-preserved
-loop-k-preserved c =
-    (
-      search rules,
-      search rules,
-      rw length-set c.loop-k.invariant.2,
-      turn_goes _ _ _ _ c.args.b c.args.a c.loop-k.k _ c.loop-k.next c.loop-k.invariant.3 c.loop-k-test.true
-          c.loop-k.invariant.1 _ c.wide-q.ensures.same _ c.if-ceiling-q.false
-          c.wide-slot.ensures.same (omega (arith, c.loop-k.invariant.2, c.requires.cursors))
-          (passed _ _ c.meet_ok.ensures c.if-not-meet_ok.false-raw),
-    )
+loop-k-preserved c = (
+  search rules,
+  search rules,
+  rw length-set c.loop-k.invariant.2,
+  turn_goes _ _ _ _ c.args.b c.args.a c.loop-k.k _ c.loop-k.next c.loop-k.invariant.3 c.loop-k-test.true
+      c.loop-k.invariant.1 _ c.wide-q.ensures.same _ c.if-ceiling-q.false
+      c.wide-slot.ensures.same (omega (arith, c.loop-k.invariant.2, c.requires.cursors))
+      (passed _ _ c.meet_ok.ensures c.if-not-meet_ok.false-raw),
+)
 
 pub returns : goal.returns
 returns c =
