@@ -16,7 +16,7 @@ use Rattle.root.specs.Sqrt.{sqrt_of}
 use Rattle.root.proofs.Fixed.{root_of_nan, root_of_infinity}
 use Rattle.root.proofs.Values.{zero_is, pattern_lt, pattern_pos}
 use Rattle.root.proofs.Splitting.{split_of}
-use Rattle.root.proofs.Pattern.{root_units, root_fits}
+use Rattle.root.proofs.Pattern.{root_units_lem, root_fits}
 
 abbrev plus_zero : Float
 plus_zero = fin false 0 (pos 0)
@@ -137,5 +137,5 @@ root_branch x r f p h e =
     let back : of_bits binary32 r ≡ v = ap (of_bits binary32) e ∙ of_bits-to_bits binary32 v (root_fits b z.0 z.1 p h z.2) in (
       back ∙ ap sqrt_of (of_bits-to_bits binary32 x f),
       subst (λ (t : Bool). T (not t))
-          (sym (nan_bits_is binary32 r ∙ ap is_nan back ∙ valued v _ _ (root_units b z.0 z.1 p h z.2))) tt,
+          (sym (nan_bits_is binary32 r ∙ ap is_nan back ∙ valued v _ _ (root_units_lem b z.0 z.1 p h z.2))) tt,
     )

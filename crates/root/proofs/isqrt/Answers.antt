@@ -1,17 +1,16 @@
 use mathlib.Core.Path.{◌≡◌, ◌∙◌}
 use Prim.Native.Nat.{ℕ, ◌+◌, ◌-◌, ◌*◌, ◌/◌, ◌%◌, ◌^◌, ◌≤◌, ◌<◌}
-use native.Mathlib.Nat.{lt_trans, lt_of_lt_of_le, le_of_suc-le-suc, mul-le-mul, one_mul}
+use native.Mathlib.Nat.{lt_trans, lt_of_lt_of_le, le_of_suc-le-suc, mul-le-mul, one-mul}
 use native.Mathlib.Numerals.{add-one}
 use native.Mathlib.Omega.{arith}
 use lib.Dec.{lit<}
+use Rattle.std.proofs.Math.Facts.{Fits-lt-pow}
 use lib.Pow.{pow_pos, pow_mono, shl_exact}
 use lib.Count.{count_leading_zeros, leading_le, leading_length}
 use Rattle.root.proofs.Whole.{within_root}
 use Rattle.root.proofs.Newton.{newton_above, newton_below, root_pos, quotient_below, half_length}
+use Rattle.root.proofs.isqrt.Invariants.{Guess}
 use Rattle.root.proofs.isqrt.Goals as goal
-
-abbrev Guess : ℕ → ℕ → Type 0
-Guess n r = (n < (r + 1) * (r + 1)) × (r < 2 ^ 32)
 
 -- ---- the first guess
 abbrev shift : ℕ → ℕ
@@ -27,7 +26,7 @@ start_above n h =
     half_length n l.0 (shift n) l.2 (omega (arith, l.1))
 
 start_is : (n : ℕ) → (1 * 2 ^ shift n) % 2 ^ 64 ≡ 2 ^ shift n
-start_is n = shl_exact 1 (shift n) 64 (lit< tt) (omega arith) ∙ one_mul (2 ^ shift n)
+start_is n = shl_exact 1 (shift n) 64 (lit< tt) (omega arith) ∙ one-mul (2 ^ shift n)
 
 first : (n : ℕ) → n < 2 ^ 64 → Guess n ((2 ^ shift n + n / 2 ^ shift n) / 2)
 first n h =
@@ -46,10 +45,10 @@ pub overflow_add-r : goal.overflow_add-r
 overflow_add-r c =
     let n = c.args.n in
     let h : 2 ^ shift n ≤ 2 ^ 32 = pow_mono (shift_le n) in
-    omega (arith, start_is n, quotient_below n (2 ^ shift n) (start_above n c.ranges.n))
+    omega (arith, start_is n, quotient_below n (2 ^ shift n) (start_above n (Fits-lt-pow c.ranges.n)))
 
 pub loop-r-init : goal.loop-r-init
-loop-r-init c = rw (start_is c.args.n) (first c.args.n c.ranges.n)
+loop-r-init c = rw (start_is c.args.n) (first c.args.n (Fits-lt-pow c.ranges.n))
 
 -- a square of such a guess fits a word
 fitting : (r : ℕ) → r < 2 ^ 32 → r * r ≤ 18446744065119617025

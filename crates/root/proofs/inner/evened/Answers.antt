@@ -1,7 +1,6 @@
 use mathlib.Core.Path.{◌≡◌, sym, ap}
 use Prim.Native.Nat.{ℕ, ◌+◌, ◌*◌, ◌%◌, ◌^◌}
 use native.Mathlib.Omega.{arith}
-use borrow.Author.Rules.{rules}
 use Rattle.root.proofs.inner.evened.Goals as goal
 
 one : (p : ℕ) → (p % 2 ≡ 0 → ⊥) → 1 ≡ p % 2

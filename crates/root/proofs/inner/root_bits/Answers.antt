@@ -1,7 +1,6 @@
 use mathlib.Core.Path.{sym, ap, ◌∙◌, subst}
 use Prim.Native.Nat.{ℕ, ◌+◌, ◌*◌, ◌/◌, ◌<◌}
 use native.Mathlib.Omega.{arith}
-use borrow.Author.Rules.{rules}
 use Rattle.root.specs.Whole.{nearest_root}
 use Rattle.root.proofs.Pattern.{nearest_digits, root_pattern}
 use Rattle.root.proofs.inner.root_bits.Goals as goal
