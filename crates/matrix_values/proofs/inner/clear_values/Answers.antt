@@ -16,7 +16,7 @@ loop-k-preserved c =
     let room : 4 * c.loop-k.k + 4 ≤ length c.args.blocks.now = omega (arith, c.loop-k-test.true, c.requires) in (
       search rules,
       turn_stores 4 _ (λ j. refl) _ _ _ _ _ c.loop-k.invariant.1 c.set_block.ensures refl room,
-      c.set_block.auto.0 ∙ c.loop-k.invariant.2,
+      c.set_block.auto.s ∙ c.loop-k.invariant.2,
     )
 
 pub returns : goal.returns

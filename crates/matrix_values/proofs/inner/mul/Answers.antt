@@ -15,8 +15,11 @@ loop-r-init c = (zero-le, c.wide-start.ensures.same, mix_none 2 _ (λ j. refl) _
 pub row_sum-requires : goal.row_sum-requires
 row_sum-requires c =
     let rows = c.requires.rows in
-    rw (c.wide-end.ensures.same, c.loop-r.invariant.1) (record { a_le_b = rows.rise c.loop-r.r c.loop-r-test.true; row_reach = row_reach _ _ _ _ _ rows c.requires.n_in_bounds.0
-          c.requires.n_in_bounds.1 c.loop-r.r c.loop-r-test.true })
+    rw (c.wide-end.ensures.same, c.loop-r.invariant.1) (record {
+      a_le_b = rows.rise c.loop-r.r c.loop-r-test.true;
+      row_reach = row_reach _ _ _ _ _ rows c.requires.n_in_bounds.0
+          c.requires.n_in_bounds.1 c.loop-r.r c.loop-r-test.true;
+    })
 
 pub loop-r-preserved : goal.loop-r-preserved
 unfolding product_at
@@ -26,7 +29,7 @@ loop-r-preserved c =
       c.wide-end.ensures.same,
       turn_stores 2 _ (λ j. refl) _ _ _ _ _ c.loop-r.invariant.2 c.set_vector.ensures
           (rw (c.row_sum.ensures, c.wide-end.ensures.same, c.loop-r.invariant.1)) room,
-      c.set_vector.auto.0 ∙ c.loop-r.invariant.3,
+      c.set_vector.auto.s ∙ c.loop-r.invariant.3,
     )
 
 pub returns : goal.returns
