@@ -1,6 +1,6 @@
 -- VECTORS OF EXACTLY 2 * n FLOATS: the matrix and the preconditioner as functions on them, and the solver's steps;
 -- and that these are what the loops of `vectors` and `matrix_values` leave in a buffer of that length.
-use Rattle.std.specs.Prelude.{ℕ, zero, suc, ◌+◌, ◌*◌, ◌≤◌, ◌<◌, ◌≡◌, refl, List, ◌++◌, length, get_or, Float}
+use Rattle.std.specs.Prelude.{ℕ, zero, suc, ◌+◌, ◌*◌, ◌≤◌, ◌<◌, ◌≡◌, refl, List, length, get_or, Float}
 use Rattle.std.proofs.Common.{arith, add-zero, sym, ◌∙◌}
 use Rattle.std.specs.Float.{nan}
 use Rattle.law.specs.Gather.{gather}

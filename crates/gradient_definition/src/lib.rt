@@ -1,7 +1,6 @@
 // The definition of the conjugate gradient, soft_fem_sparse.rs's ConjugateGradient (rules, module 5): what one turn comes to, and what a run of them.
 #![tactic(auto)]
 
-
 // What one turn came to: a curvature that isn't above zero, a residual within the threshold, or neither. Floats are squared
 // lengths of the residual; Bent's is the denominator, and rz is the residual times the preconditioned residual.
 #[derive(Clone, Copy)]

@@ -1,6 +1,5 @@
 use mathlib.Core.Path.{sym, ap, ◌∙◌}
 use Rattle.gradient_definition.specs.Inverse.{or_identity, kept, dropped}
-use borrow.Author.Rules.{rules}
 use Rattle.gradient_preconditioner.proofs.inner.inverse_or_identity.Goals as goal
 
 pub returns-then-is_finite : goal.returns-then-is_finite

@@ -1,8 +1,8 @@
 use mathlib.Core.Path.{◌≡◌, refl, ◌∙◌}
-use Prim.Native.Nat.{◌+◌, ◌*◌, ◌-◌, ◌≤◌, zero-le}
+use Prim.Native.Nat.{◌+◌, ◌*◌, ◌≤◌, zero-le}
 use native.Mathlib.Omega.{arith}
 use lib.ListN.{length}
-use Rattle.law.specs.Mix.{mix, mix_none, turn_stores}
+use Rattle.law.specs.Mix.{mix_none, turn_stores}
 use Rattle.gradient_definition.specs.Inverse.{inverse_at}
 use borrow.Author.Rules.{rules}
 use Rattle.gradient_preconditioner.proofs.inner.update_preconditioner.Goals as goal
@@ -22,7 +22,7 @@ loop-r-preserved c =
       search rules,
       turn_stores 4 _ (λ j. refl) _ _ _ _ _ c.loop-r.invariant.1 c.set_block.ensures
           (rw (c.inverse_or_identity.ensures, c.block_at.ensures, c.wide-slot.ensures.same)) room,
-      c.set_block.auto.0 ∙ c.loop-r.invariant.2,
+      c.set_block.auto.s ∙ c.loop-r.invariant.2,
     )
 
 pub returns : goal.returns

@@ -1,10 +1,8 @@
-use mathlib.Core.Path.{◌≡◌, refl, ◌∙◌}
-use Prim.Native.Nat.{◌+◌, ◌*◌, ◌-◌, ◌≤◌, zero-le}
-use native.Mathlib.Omega.{arith}
+use mathlib.Core.Path.{◌≡◌}
+use Prim.Native.Nat.{◌-◌, ◌≤◌}
 use lib.ListN.{length}
-use Rattle.law.specs.Mix.{mix, mix_none, turn_stores}
+use Rattle.law.specs.Mix.{mix}
 use Rattle.gradient_definition.specs.Inverse.{inverse_at}
-use borrow.Author.Rules.{rules}
 use Rattle.gradient_preconditioner.proofs.inner.update_preconditioner.Given as goal
 
 abbrev pub invariant-loop-r : goal.invariant-loop-r
