@@ -1,5 +1,4 @@
 use mathlib.Core.Path.{◌≡◌}
-use mathlib.Core.Bool.{Bool, true}
 use borrow.Author.Rules.{rules}
 use Rattle.law.specs.Truth.{passed, refused}
 use Rattle.matrix_shape.specs.Rows.{at}
@@ -8,22 +7,16 @@ use Rattle.plan_fits.specs.Lists.{plan_of, placed_of}
 use Rattle.plan_inside.specs.Half.{half_is}
 use Rattle.plan_inside.proofs.inside.fits.Goals as goal
 
-abbrev own : tie.Start → Bool
-own s = plan_rules_ok s.args.n (at s.args.perm.now) (at s.args.inv_perm.now) (at s.args.first.now) (at s.args.row_start.now)
-
--- what the plan's own test has shown
-shown : (c : goal.Else-not-plan_ok) → own c ≡ true
-shown c = passed _ (own c) c.plan_ok.ensures c.if-not-plan_ok.false-raw
-
 pub returns-then-not-plan_ok : goal.returns-then-not-plan_ok
 unfolding fits_ok
-returns-then-not-plan_ok c = rw (refused _ (own c) c.plan_ok.ensures c.if-not-plan_ok.true-raw)
+returns-then-not-plan_ok c = rw (refused _ _ c.plan_ok.ensures c.if-not-plan_ok.true-raw)
 
 pub rows_ok-requires : goal.rows_ok-requires
 rows_ok-requires c =
-    (c.requires.pattern, placed_of _ _ _ _ _ (plan_of _ _ _ _ _ c.requires.laid (shown c)))
+    (c.requires.pattern, placed_of _ _ _ _ _ (plan_of _ _ _ _ _ c.requires.laid (passed _ _ c.plan_ok.ensures c.if-not-plan_ok.false-raw)))
 
 pub returns : goal.returns
 unfolding fits_ok
 returns c =
-    rw (shown c, c.rows_ok.ensures) (half_is _ _ _ _ _ c.requires.pattern.formed _ _ _ _ (planned_is _ _ _ _ _ (shown c)))
+    let shown = passed _ _ c.plan_ok.ensures c.if-not-plan_ok.false-raw in
+    rw (shown, c.rows_ok.ensures) (half_is _ _ _ _ _ c.requires.pattern.formed _ _ _ _ (planned_is _ _ _ _ _ shown))

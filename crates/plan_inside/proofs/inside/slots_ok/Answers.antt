@@ -34,13 +34,12 @@ bounds-first-j c =
 
 pub loop-k-preserved : goal.loop-k-preserved
 unfolding every two_ok
-loop-k-preserved c =
-    (
-      search rules,
-      search rules,
-      over_turn _ _ _ _ _ _ c.loop-k.invariant.0 c.loop-k.invariant.2
-          (rw (c.wide.ensures.same, c.wide-j.ensures.same, c.wide-c.ensures.same)),
-    )
+loop-k-preserved c = (
+  search rules,
+  search rules,
+  over_turn _ _ _ _ _ _ c.loop-k.invariant.0 c.loop-k.invariant.2
+      (rw (c.wide.ensures.same, c.wide-j.ensures.same, c.wide-c.ensures.same)),
+)
 
 pub returns : goal.returns
 unfolding every
