@@ -1,8 +1,7 @@
-use mathlib.Core.Path.{◌≡◌, refl}
-use Prim.Native.Nat.{◌-◌, ◌≤◌, zero-le}
-use Rattle.law.specs.Loop.{over, over_none, over_turn, over_done}
-use Rattle.plane.specs.Plane.{zero32}
-use Rattle.flat_runs.specs.Run.{run_step, dot_run}
+use mathlib.Core.Path.{refl}
+use Prim.Native.Nat.{zero-le}
+use Rattle.law.specs.Loop.{over_none, over_turn, over_done}
+use Rattle.flat_runs.specs.Run.{dot_run}
 use borrow.Author.Rules.{rules}
 use Rattle.flat_runs.proofs.run.dot.Goals as goal
 

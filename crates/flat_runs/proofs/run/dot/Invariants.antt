@@ -1,9 +1,8 @@
-use mathlib.Core.Path.{◌≡◌, refl}
-use Prim.Native.Nat.{◌-◌, ◌≤◌, zero-le}
-use Rattle.law.specs.Loop.{over, over_none, over_turn, over_done}
+use mathlib.Core.Path.{◌≡◌}
+use Prim.Native.Nat.{◌-◌, ◌≤◌}
+use Rattle.law.specs.Loop.{over}
 use Rattle.plane.specs.Plane.{zero32}
-use Rattle.flat_runs.specs.Run.{run_step, dot_run}
-use borrow.Author.Rules.{rules}
+use Rattle.flat_runs.specs.Run.{run_step}
 use Rattle.flat_runs.proofs.run.dot.Given as goal
 
 abbrev pub invariant-loop-c : goal.invariant-loop-c

@@ -1,9 +1,8 @@
-use mathlib.Core.Path.{◌≡◌, refl}
-use Prim.Native.Nat.{◌-◌, ◌≤◌, zero-le}
-use lib.ListN.{length, length-set}
-use Rattle.law.specs.Loop.{over, over_none, over_turn, over_done}
-use Rattle.flat_runs.specs.Run.{take_step, take_run}
-use borrow.Author.Rules.{rules}
+use mathlib.Core.Path.{◌≡◌}
+use Prim.Native.Nat.{◌-◌, ◌≤◌}
+use lib.ListN.{length}
+use Rattle.law.specs.Loop.{over}
+use Rattle.flat_runs.specs.Run.{take_step}
 use Rattle.flat_runs.proofs.run.take.Given as goal
 
 abbrev pub invariant-loop-c : goal.invariant-loop-c
