@@ -1,9 +1,8 @@
-use mathlib.Core.Path.{◌≡◌, refl}
-use Prim.Native.Nat.{◌-◌, ◌≤◌}
+use mathlib.Core.Path.{refl}
 use native.Mathlib.Omega.{arith}
 use borrow.Author.Rules.{rules}
-use lib.ListN.{length, take, length-set}
-use Rattle.law.specs.Put.{Put, put_none}
+use lib.ListN.{length-set}
+use Rattle.law.specs.Put.{put_none}
 use Rattle.bench_print.proofs.Lists.{bytes_turn, bytes_room, bytes_end}
 use Rattle.bench_print.proofs.inner.put_bytes.Goals as goal
 

@@ -1,10 +1,7 @@
-use mathlib.Core.Path.{◌≡◌, refl}
-use Prim.Native.Nat.{◌-◌, ◌≤◌}
-use native.Mathlib.Omega.{arith}
-use borrow.Author.Rules.{rules}
-use lib.ListN.{length, take, length-set}
-use Rattle.law.specs.Put.{Put, put_none}
-use Rattle.bench_print.proofs.Lists.{bytes_turn, bytes_room, bytes_end}
+use mathlib.Core.Path.{◌≡◌}
+use Prim.Native.Nat.{◌≤◌}
+use lib.ListN.{length, take}
+use Rattle.law.specs.Put.{Put}
 use Rattle.bench_print.proofs.inner.put_bytes.Given as goal
 
 abbrev pub invariant-loop-i : goal.invariant-loop-i

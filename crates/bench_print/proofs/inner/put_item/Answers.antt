@@ -1,9 +1,6 @@
-use mathlib.Core.Path.{◌∙◌}
 use native.Mathlib.Omega.{arith}
 use lib.ListN.{length-set}
-use Rattle.law.specs.Put.{put_long}
 use Rattle.bench_print.proofs.Lists.{item_room, item_put}
-use borrow.Author.Rules.{rules}
 use Rattle.bench_print.proofs.inner.put_item.Goals as goal
 
 pub bounds-out-at : goal.bounds-out-at

@@ -1,10 +1,8 @@
-use mathlib.Core.Path.{◌≡◌, refl, ◌∙◌}
-use Prim.Native.Nat.{◌-◌, ◌≤◌}
-use native.Mathlib.Omega.{arith}
-use borrow.Author.Rules.{rules}
+use mathlib.Core.Path.{◌≡◌}
+use Prim.Native.Nat.{◌≤◌}
 use lib.ListN.{length}
-use Rattle.law.specs.Put.{Put, put_long}
-use Rattle.bench_print.proofs.Lists.{items, items_none, items_turn, items_room, items_end}
+use Rattle.law.specs.Put.{Put}
+use Rattle.bench_print.proofs.Lists.{items}
 use Rattle.bench_print.proofs.inner.put_list.Given as goal
 
 abbrev pub invariant-loop-i : goal.invariant-loop-i
