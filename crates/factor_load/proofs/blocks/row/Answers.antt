@@ -1,5 +1,4 @@
 use Rattle.factor_load.specs.Load.{row_into, slot_of}
-use borrow.Author.Rules.{rules}
 use native.Mathlib.Omega.{arith}
 use Rattle.factor_load.proofs.blocks.row.Goals as goal
 

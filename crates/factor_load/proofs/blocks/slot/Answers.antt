@@ -2,7 +2,6 @@ use mathlib.Core.Path.{ap, ◌∙◌}
 use borrow.Author.Tests.{lt-ltb, le-ltb}
 use Rattle.matrix_shape.specs.Rows.{at}
 use Rattle.factor_load.specs.Load.{slot_into}
-use borrow.Author.Rules.{rules}
 use native.Mathlib.Omega.{arith}
 use Rattle.factor_load.proofs.blocks.slot.Goals as goal
 

@@ -1,10 +1,7 @@
-use mathlib.Core.Path.{◌≡◌, refl, ◌∙◌}
-use Prim.Native.Nat.{◌-◌, ◌≤◌}
+use mathlib.Core.Path.{refl, ◌∙◌}
 use native.Mathlib.Nat.{le_refl}
-use lib.ListN.{length}
-use Rattle.law.specs.Loop.{over, over_none, over_turn, over_done}
-use Rattle.matrix_shape.specs.Rows.{at}
-use Rattle.factor_load.specs.Load.{slot_into, slots_into}
+use Rattle.law.specs.Loop.{over_none, over_turn, over_done}
+use Rattle.factor_load.specs.Load.{slots_into}
 use borrow.Author.Rules.{rules}
 use Rattle.factor_load.proofs.blocks.slots.Goals as goal
 
@@ -16,14 +13,13 @@ slot-requires c =
     rw c.loop-k.invariant.2 (c.requires.by_index c.loop-k.k c.loop-k.invariant.0 c.loop-k-test.true)
 
 pub loop-k-preserved : goal.loop-k-preserved
-loop-k-preserved c =
-    (
-      search rules,
-      search rules,
-      c.slot.auto.1.1.1.1.1.1.1.1.0 ∙ c.loop-k.invariant.2,
-      over_turn _ _ _ _ _ _ c.loop-k.invariant.0 c.loop-k.invariant.3
-          c.slot.ensures,
-    )
+loop-k-preserved c = (
+  search rules,
+  search rules,
+  c.slot.auto.values ∙ c.loop-k.invariant.2,
+  over_turn _ _ _ _ _ _ c.loop-k.invariant.0 c.loop-k.invariant.3
+      c.slot.ensures,
+)
 
 pub returns : goal.returns
 unfolding slots_into

@@ -1,11 +1,9 @@
-use mathlib.Core.Path.{◌≡◌, refl, ◌∙◌}
+use mathlib.Core.Path.{◌≡◌}
 use Prim.Native.Nat.{◌-◌, ◌≤◌}
-use native.Mathlib.Nat.{le_refl}
 use lib.ListN.{length}
-use Rattle.law.specs.Loop.{over, over_none, over_turn, over_done}
+use Rattle.law.specs.Loop.{over}
 use Rattle.matrix_shape.specs.Rows.{at}
-use Rattle.factor_load.specs.Load.{slot_into, slots_into}
-use borrow.Author.Rules.{rules}
+use Rattle.factor_load.specs.Load.{slot_into}
 use Rattle.factor_load.proofs.blocks.slots.Given as goal
 
 abbrev pub invariant-loop-k : goal.invariant-loop-k

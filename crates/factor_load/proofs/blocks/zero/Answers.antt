@@ -1,7 +1,6 @@
 use mathlib.Core.Path.{◌≡◌, refl, ap, ◌∙◌}
 use mathlib.Core.List.{List, ◌++◌, append-nil}
-use Prim.Native.Nat.{◌-◌, ◌≤◌}
-use lib.ListN.{length, drop, replicate, length-set}
+use lib.ListN.{length, replicate, length-set}
 use lib.Seq.{drop-length}
 use Rattle.law.specs.Store.{filled_more}
 use Rattle.plane.specs.Plane.{zero32}
@@ -13,14 +12,13 @@ pub loop-k-init : goal.loop-k-init
 loop-k-init c = (search rules, refl, refl, refl)
 
 pub loop-k-preserved : goal.loop-k-preserved
-loop-k-preserved c =
-    (
-      search rules,
-      refl,
-      simp length-set c.loop-k.invariant.2,
-      rw c.loop-k.invariant.3 (filled_more c.loop-k.k zero32 c.args.values.now
-          (search rules)),
-    )
+loop-k-preserved c = (
+  search rules,
+  refl,
+  simp length-set c.loop-k.invariant.2,
+  rw c.loop-k.invariant.3 (filled_more c.loop-k.k zero32 c.args.values.now
+      (search rules)),
+)
 
 pub returns : goal.returns
 returns c = let l = c.args.values.now in

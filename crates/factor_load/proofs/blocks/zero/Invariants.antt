@@ -1,12 +1,8 @@
-use mathlib.Core.Path.{◌≡◌, refl, ap, ◌∙◌}
-use mathlib.Core.List.{List, ◌++◌, append-nil}
-use Prim.Native.Nat.{◌-◌, ◌≤◌}
-use lib.ListN.{length, drop, replicate, length-set}
-use lib.Seq.{drop-length}
-use Rattle.law.specs.Store.{filled_more}
+use mathlib.Core.Path.{◌≡◌}
+use mathlib.Core.List.{◌++◌}
+use Prim.Native.Nat.{◌≤◌}
+use lib.ListN.{length, drop, replicate}
 use Rattle.plane.specs.Plane.{zero32}
-use borrow.Author.Rules.{rules}
-use native.Mathlib.Omega.{arith}
 use Rattle.factor_load.proofs.blocks.zero.Given as goal
 
 abbrev pub invariant-loop-k : goal.invariant-loop-k

@@ -1,10 +1,9 @@
-use mathlib.Core.Path.{◌≡◌, refl, ◌∙◌}
-use Prim.Native.Nat.{◌-◌, ◌≤◌, zero-le}
+use mathlib.Core.Path.{◌≡◌}
+use Prim.Native.Nat.{◌-◌, ◌≤◌}
 use lib.ListN.{length}
-use Rattle.law.specs.Loop.{over, over_none, over_turn, over_done}
+use Rattle.law.specs.Loop.{over}
 use Rattle.matrix_shape.specs.Rows.{at}
-use Rattle.factor_load.specs.Load.{row_into, load_of}
-use borrow.Author.Rules.{rules}
+use Rattle.factor_load.specs.Load.{row_into}
 use Rattle.factor_load.proofs.inner.load.Given as goal
 
 abbrev pub invariant-loop-r : goal.invariant-loop-r
