@@ -95,8 +95,8 @@ module _ (n : ℕ) (pinned table : List ℕ) (p : ℕ) where
   abbrev pub has_place : Bool
   has_place = ltb p n && ltb p (length pinned) && ltb p (length table)
 
-  pub has_place : not has_place ≡ false → (p < n) × ((p < length pinned) × (p < length table))
-  has_place h =
+  pub has_place_lem : not has_place ≡ false → (p < n) × ((p < length pinned) × (p < length table))
+  has_place_lem h =
       let a = both (ltb p n && ltb p (length pinned)) (ltb p (length table)) (not-false has_place h) in
       let b = both (ltb p n) (ltb p (length pinned)) a.0 in
       (ltb-true _ _ b.0, (ltb-true _ _ b.1, ltb-true _ _ a.1))

@@ -5,7 +5,6 @@ use Rattle.law.specs.Refusal.{goes_on, stops, ends}
 use Rattle.law.specs.Truth.{both, refused, passed}
 use Rattle.law.specs.Room.{enough}
 use Rattle.columns_table.specs.Loading.{refusals, table_room}
-use borrow.Author.Rules.{rules}
 use Rattle.columns_table.proofs.refuse.loading.Goals as goal
 
 one_more : (x t y : Bool) → x ≡ t → (x && y) ≡ true → not (t && y) ≡ false

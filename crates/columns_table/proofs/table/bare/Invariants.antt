@@ -1,12 +1,9 @@
-use mathlib.Core.Path.{◌≡◌, refl}
-use Prim.Native.Nat.{◌+◌, ◌-◌, ◌≤◌}
-use native.Mathlib.Omega.{arith}
+use mathlib.Core.Path.{◌≡◌}
+use Prim.Native.Nat.{◌+◌, ◌≤◌}
 use lib.Dec.{eqb}
 use Rattle.law.specs.Limit.{unloaded}
-use Rattle.law.specs.Loop.{over_none, over_turn, over_done}
 use Rattle.law.specs.Every.{every}
 use Rattle.matrix_shape.specs.Rows.{at}
-use borrow.Author.Rules.{rules}
 use Rattle.columns_table.proofs.table.bare.Given as goal
 
 abbrev pub invariant-loop-k : goal.invariant-loop-k

@@ -1,5 +1,4 @@
 use Rattle.columns_table.specs.Columns.{room_none, room_by}
-use borrow.Author.Rules.{rules}
 use Rattle.columns_table.proofs.table.columns_room.Goals as goal
 
 pub returns-then-n-eq0 : goal.returns-then-n-eq0

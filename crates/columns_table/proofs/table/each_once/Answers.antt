@@ -1,9 +1,7 @@
-use mathlib.Core.Path.{◌≡◌, refl}
-use Prim.Native.Nat.{◌-◌, ◌≤◌, zero-le}
-use lib.Dec.{eqb}
+use mathlib.Core.Path.{refl}
+use Prim.Native.Nat.{zero-le}
 use Rattle.law.specs.Loop.{over_none, over_turn, over_done}
 use Rattle.law.specs.Every.{every}
-use Rattle.matrix_shape.specs.Rows.{at}
 use borrow.Author.Rules.{rules}
 use Rattle.columns_table.proofs.table.each_once.Goals as goal
 

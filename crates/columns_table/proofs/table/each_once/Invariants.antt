@@ -1,10 +1,8 @@
-use mathlib.Core.Path.{◌≡◌, refl}
-use Prim.Native.Nat.{◌-◌, ◌≤◌, zero-le}
+use mathlib.Core.Path.{◌≡◌}
+use Prim.Native.Nat.{◌-◌, ◌≤◌}
 use lib.Dec.{eqb}
-use Rattle.law.specs.Loop.{over_none, over_turn, over_done}
 use Rattle.law.specs.Every.{every}
 use Rattle.matrix_shape.specs.Rows.{at}
-use borrow.Author.Rules.{rules}
 use Rattle.columns_table.proofs.table.each_once.Given as goal
 
 abbrev pub invariant-loop-c : goal.invariant-loop-c

@@ -3,7 +3,6 @@ use native.Mathlib.Omega.{arith}
 use Rattle.law.specs.Limit.{columns}
 use Rattle.law.specs.Truth.{refused, passed}
 use Rattle.columns_table.specs.Loading.{loads_none, loads_one}
-use borrow.Author.Rules.{rules}
 use Rattle.columns_table.proofs.table.load.Goals as goal
 
 pub returns-then-not-is_new : goal.returns-then-not-is_new

@@ -1,11 +1,7 @@
-use mathlib.Core.Path.{◌≡◌, refl, ap, ◌∙◌}
-use Prim.Native.Nat.{◌-◌, ◌≤◌, ◌<◌}
-use native.Mathlib.Omega.{arith}
-use mathlib.Core.Logic.{⊎_elim}
-use lib.ListN.{length, length-set}
-use Rattle.matrix_shape.specs.Rows.{at}
-use Rattle.columns_table.specs.Pass.{Met, times_most, is_number, met_bare, met_one, passed_all, passed_not}
-use borrow.Author.Rules.{rules}
+use mathlib.Core.Path.{◌≡◌}
+use Prim.Native.Nat.{◌-◌, ◌≤◌}
+use lib.ListN.{length}
+use Rattle.columns_table.specs.Pass.{Met}
 use Rattle.columns_table.proofs.table.pass.Given as goal
 
 abbrev pub invariant-loop-p : goal.invariant-loop-p

@@ -1,6 +1,5 @@
 use borrow.Author.Tests.{not-true, not-false}
 use Rattle.columns_table.specs.Pass.{met_none, too_many, has_fault, has_none}
-use borrow.Author.Rules.{rules}
 use Rattle.columns_table.proofs.table.table_ok.Goals as goal
 
 pub returns-then-loaded-gt-COLUMNS : goal.returns-then-loaded-gt-COLUMNS

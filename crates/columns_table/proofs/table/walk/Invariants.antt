@@ -1,10 +1,7 @@
-use mathlib.Core.Path.{◌≡◌, refl, ◌∙◌}
-use Prim.Native.Nat.{◌-◌, ◌≤◌, zero-le}
-use native.Mathlib.Omega.{arith}
+use mathlib.Core.Path.{◌≡◌}
+use Prim.Native.Nat.{◌-◌, ◌≤◌}
 use lib.ListN.{length}
-use borrow.Author.Tests.{not-true, not-false}
-use Rattle.columns_table.specs.Pass.{Met, passed_early}
-use borrow.Author.Rules.{rules}
+use Rattle.columns_table.specs.Pass.{Met}
 use Rattle.columns_table.proofs.table.walk.Given as goal
 
 abbrev pub invariant-loop-p : goal.invariant-loop-p
