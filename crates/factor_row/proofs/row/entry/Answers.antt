@@ -1,5 +1,4 @@
 use Rattle.factor_row.specs.Row.{entry_of}
-use borrow.Author.Rules.{rules}
 use Rattle.factor_row.proofs.row.entry.Goals as goal
 
 pub returns : goal.returns

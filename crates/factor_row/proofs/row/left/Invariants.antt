@@ -1,12 +1,9 @@
-use mathlib.Core.Path.{◌≡◌, refl}
+use mathlib.Core.Path.{◌≡◌}
 use Prim.Native.Nat.{◌-◌, ◌≤◌}
-use native.Mathlib.Nat.{le_refl}
-use lib.ListN.{length, length-set}
-use Rattle.law.specs.Loop.{over, over_none, over_turn, over_done}
+use lib.ListN.{length}
+use Rattle.law.specs.Loop.{over}
 use Rattle.matrix_shape.specs.Rows.{at}
-use Rattle.factor_row.specs.Row.{entry_step, left_of}
-use borrow.Author.Rules.{rules}
-use native.Mathlib.Omega.{arith}
+use Rattle.factor_row.specs.Row.{entry_step}
 use Rattle.factor_row.proofs.row.left.Given as goal
 
 abbrev pub invariant-loop-j : goal.invariant-loop-j

@@ -1,11 +1,9 @@
-use mathlib.Core.Path.{◌≡◌, refl}
+use mathlib.Core.Path.{◌≡◌}
 use Prim.Native.Nat.{◌-◌, ◌≤◌}
-use native.Mathlib.Nat.{le_refl}
 use lib.ListN.{get_or}
 use lib.Ieee.{nan}
-use Rattle.law.specs.Loop.{over, over_none, over_turn, over_done}
-use Rattle.factor_row.specs.Row.{square_step, pivot_of}
-use borrow.Author.Rules.{rules}
+use Rattle.law.specs.Loop.{over}
+use Rattle.factor_row.specs.Row.{square_step}
 use Rattle.factor_row.proofs.row.pivot.Given as goal
 
 abbrev pub invariant-loop-k : goal.invariant-loop-k

@@ -1,6 +1,5 @@
 use borrow.Author.Tests.{lt-ltb, le-ltb}
 use Rattle.factor_row.specs.Row.{reduced_of, later_left, later_right}
-use borrow.Author.Rules.{rules}
 use native.Mathlib.Omega.{arith}
 use Rattle.factor_row.proofs.row.reduced.Goals as goal
 
