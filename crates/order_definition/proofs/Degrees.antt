@@ -68,7 +68,7 @@ degrees_at starts (suc n) v h = go (λ (lt : v < n). degrees_at starts n v lt) (
     go : (v < n → get_or (degrees_to starts n) v 0 ≡ get_or starts (suc v) 0 - get_or starts v 0 - 1) → (v < n) ⊎ (n ≤ v)
         → get_or (degrees_to starts n ++ (x ∷ [])) v 0 ≡ get_or starts (suc v) 0 - get_or starts v 0 - 1
     go ih (inr le) = let e : n ≡ v = omega arith in subst (λ (k : ℕ). get_or (degrees_to starts n ++ (x ∷ [])) k 0 ≡ get_or starts (suc k) 0 - get_or starts
-        k 0 - 1) e (lib.Seq.get_d_at (degrees_to starts n) x [] 0 n (length_degrees starts n))
+        k 0 - 1) e (lib.Seq.get_or_at (degrees_to starts n) x [] 0 n (length_degrees starts n))
     go ih (inl lt) = get_or-append (degrees_to starts n) (x ∷ []) 0 v (omega (arith, length_degrees starts n)) ∙ ih lt
 
 pub degrees_table : (n : ℕ) (starts cols degrees : List ℕ) → Tight n starts cols → degrees ≡ degrees_to starts n → TableOf starts cols n degrees

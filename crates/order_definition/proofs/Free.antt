@@ -9,7 +9,7 @@ use lib.ListN.{length, get_or, set, replicate, length-append, length-set, length
 use lib.Seq.{get_or-set_same, get_or-set_other}
 use lib.Dec.{ltb, leb, eqb}
 use borrow.Author.Tests.{eqb-true, eq-eqb, ltb-true, not-true}
-use Rattle.order_definition.specs.Order.{among, passing, numbers, least, Breadth, met, meet, meet_all, spread, reach, depth, far_of}
+use Rattle.order_definition.specs.Order.{among, passing, degree, numbers, least, Breadth, met, meet, meet_all, spread, reach, depth, far_of}
 use Rattle.order_definition.specs.Order.{settle, choose_start, start_after}
 use Rattle.order_definition.proofs.At.{first, at_nil, get_d_at, In, one_at}
 use Rattle.order_definition.proofs.Pigeon.{Distinct, distinct_one, distinct_append, in_head, in_tail, in_append, among_true, among_false}
@@ -113,7 +113,7 @@ module _ (nb : ℕ → List ℕ) (n : ℕ) (free : ℕ → Bool) where
         let a : In x r.queue = (length r.queue - 1, get_d_at r.queue (length r.queue - 1) 0 (omega (arith, h.some))) in
         let t : ℕ → Bool = λ w. eqb (get_or r.level w 0) (depth nb n r) in
         let k = in_passing t r.queue x a (eq-eqb (get_or r.level x 0) (depth nb n r) refl) in
-        (passing_in t r.queue (far_of nb n r) (least_in n _ (passing t r.queue) x k)).0
+        (passing_in t r.queue (far_of nb n r) (least_in n (degree nb) (passing t r.queue) x k)).0
 
     abbrev pub Free : ℕ → Type 0
     Free w = (w < n) × (free w ≡ true)
@@ -144,7 +144,7 @@ module _ (nb : ℕ → List ℕ) (n : ℕ) (free : ℕ → Bool) where
 
     choose_free : (w : ℕ) → w < n → free w ≡ true → Free (choose_start nb n free)
     unfolding choose_start
-    choose_free w lt fr = settled_free _ _ (least_free _ w lt fr)
+    choose_free w lt fr = settled_free _ _ (least_free (degree nb) w lt fr)
 
 -- fewer than n placed leave one unplaced
 pub some_unplaced : (n : ℕ) (placed : List ℕ) → length placed < n → (w : ℕ) × (w < n) × (among placed w ≡ false)

@@ -14,7 +14,7 @@ use Rattle.law.specs.Loop.{rising, climbing}
 use Rattle.law.specs.Truth.{below_or}
 use Rattle.matrix_shape.specs.Formed.{Stored}
 use Rattle.matrix_shape.specs.Rows.{at}
-use Rattle.order_definition.specs.Order.{among, passing, neighbours, row, fresh, start_after}
+use Rattle.order_definition.specs.Order.{among, passing, degree, neighbours, row, fresh, start_after}
 use Rattle.order_definition.specs.Tight.{Tight}
 use Rattle.order_definition.proofs.At.{At, at_nil, at_lt, at_get_or, get_d_at, In}
 use Rattle.order_definition.proofs.Pigeon.{Distinct, distinct_nil, among_false}
@@ -97,7 +97,7 @@ module _ (n : ℕ) (starts cols : List ℕ) (t : Tight n starts cols) where
 
   pub fresh_in : (o : List ℕ) (v w : ℕ) → In w (fresh nb n o v) → In w (nb v) × (In w o → ⊥)
   unfolding fresh
-  fresh_in o v w a = go (in_sort _ [] (passing (λ (x : ℕ). not (among o x)) (nb v)) w a)
+  fresh_in o v w a = go (in_sort (degree nb) [] (passing (λ (x : ℕ). not (among o x)) (nb v)) w a)
     where
       go : In w [] ⊎ In w (passing (λ (x : ℕ). not (among o x)) (nb v)) → In w (nb v) × (In w o → ⊥)
       go (inl b) = absurd (at_nil b.1)
@@ -105,13 +105,13 @@ module _ (n : ℕ) (starts cols : List ℕ) (t : Tight n starts cols) where
 
   pub in_fresh : (o : List ℕ) (v w : ℕ) → In w (nb v) → among o w ≡ false → In w (fresh nb n o v)
   unfolding fresh
-  in_fresh o v w a p = sort_in _ [] (passing (λ (x : ℕ). not (among o x)) (nb v)) w
+  in_fresh o v w a p = sort_in (degree nb) [] (passing (λ (x : ℕ). not (among o x)) (nb v)) w
       (inr (in_passing (λ (x : ℕ). not (among o x)) (nb v) w a (ap not p)))
 
   fresh_distinct : (o : List ℕ) (v : ℕ) → v < n → Distinct (fresh nb n o v)
   unfolding fresh neighbours
   fresh_distinct o v lt =
-      sort_distinct _ [] (passing (λ (x : ℕ). not (among o x)) (nb v)) distinct_nil
+      sort_distinct (degree nb) [] (passing (λ (x : ℕ). not (among o x)) (nb v)) distinct_nil
       (passing_distinct (λ (x : ℕ). not (among o x)) (nb v) (passing_distinct (λ (c : ℕ). not (eqb c v)) (row starts cols v) (row_distinct v lt)))
       (λ (w : ℕ) (a : In w []) (b : In w (passing (λ (x : ℕ). not (among o x)) (nb v))). at_nil a.1)
 
