@@ -1,6 +1,5 @@
 #!/usr/bin/env python3
-"""Holds ./prove to what it says of itself, in seconds: over a small repository whose prover is a stand-in that proves whatever isn't `wrong`,
-under the kit's own `rt`, which says what was proved."""
+"""Holds ./prove to what it says of itself, in seconds: over a small repository and a stand-in for `rt` that proves whatever isn't `wrong`."""
 
 import contextlib
 import os
@@ -17,17 +16,18 @@ ROOT = pathlib.Path(__file__).resolve().parent.parent
 KIT = "a stand-in kit"
 CRATES = {"low": "", "left": " low", "right": " low  # beside left", "top": " left right", "caller": " top low", "run": " top"}
 # It notes when it starts and ends with a crate, and is as slow as the crate's file says.
-PROVER = """#!/bin/sh
-name=$3 file=$4
-while [ "$1" != -o ]; do shift; done
+PROVER = f"""#!/bin/sh
+if [ "$1" = version ]; then echo '{KIT}'; exit 0; fi
+name=$(basename "$PWD")
+file=$(ls src/lib.rt src/main.rt 2>/dev/null) || [ -n "$file" ] || {{ echo "rt: $name has neither src/lib.rt nor src/main.rt"; exit 1; }}
 echo "start $name" >>"$NOTES"
 sleep "$(sed -n 's/slow //p' "$file" | grep . || echo 0.02)"
 echo "end $name" >>"$NOTES"
 if grep -q wrong "$file"; then echo "$file: error: wrong"; echo logic=not-proved; exit 1; fi
-case $2 in *.a | *.o) : >"$2" ;; *) mkdir -p "$2" ;; esac
+mkdir -p out
+case $1 in run) : >"out/$name" ;; lib) : >"out/lib$name.a" ;; esac
 echo logic=proved
 """
-LINKER = '#!/bin/sh\nwhile [ "$1" != -o ]; do shift; done\n: >"$2"\n'
 TOOLS = "awk basename cat chmod chown cmp cp cut date dirname env find flock grep head id ln ls mkdir mkfifo mktemp mv nproc readlink rm sed setpriv".split()
 TOOLS += "setsid sh sha256sum sleep sort tr uname wc".split()
 
@@ -44,28 +44,26 @@ def executable(file, text):
 
 
 class Small:
-    """The small repository, its kit and its tools; `rt` is among them unless it's said to be missing."""
+    """The small repository and its tools; `rt` is among them unless it's said to be missing."""
 
     def __init__(self, folder, rt=True):
-        self.folder, self.at, kit = folder, folder / "repository", folder / "kit"
+        self.folder, self.at = folder, folder / "repository"
         folder.chmod(0o755)
-        own = kit / "on" / os.uname().machine
-        executable(own / "bin/rattle", PROVER)
-        executable(own / "bin/rattle-link", LINKER)
-        executable(own / "toolchain/lib/ld-linux-x86-64.so.2", "#!/bin/sh\n")
-        (kit / "KIT-ID").write_text(KIT + "\n")
-        for name in ("bindings", "tools", "temporary"):
-            (self.at / name if name == "bindings" else folder / name).mkdir(parents=True)
-        for name in TOOLS + ["rt"] * rt:
+        for name in ("tools", "temporary"):
+            (folder / name).mkdir(parents=True)
+        self.at.mkdir()
+        for name in TOOLS:
             if shutil.which(name):
                 (folder / "tools" / name).symlink_to(shutil.which(name))
+        if rt:
+            executable(folder / "tools/rt", PROVER)
         shutil.copy(ROOT / "prove", self.at)
         (self.at / "KIT").write_text(KIT + "\n")
         (self.at / "crates.txt").write_text("".join(f"{name}:{deps}\n" for name, deps in CRATES.items()))
         for name in CRATES:
             self.write(name, "")
         self.notes = folder / "notes"
-        self.env = {"PATH": str(folder / "tools"), "RATTLE_HOME": str(kit), "NOTES": str(self.notes), "TMPDIR": str(folder / "temporary"), "RT_JOBS": "2"}
+        self.env = {"PATH": str(folder / "tools"), "NOTES": str(self.notes), "TMPDIR": str(folder / "temporary"), "RT_JOBS": "2"}
 
     def write(self, name, text):
         file = self.at / "crates" / name / "src" / ("main.rt" if name == "run" else "lib.rt")
@@ -127,7 +125,7 @@ def from_nothing():
         notes = it.notes.read_text()
         yield "two at a time", bool(re.search(r"start (left|right)\nstart", notes)) and "end top\nstart run" in notes
         yield "again: nothing is said, nothing proved", it.ran("./prove", "run") == (0, "", "") and not it.started()
-        yield "rt agrees", it.ran("rt", "check", "run")[1].count("unchanged since") == 5 and not it.started()
+        yield "the program is built", (it.at / "target/bin/run").exists()
         it.write("right", "other")
         status, _, said = it.ran("./prove", "run")
         yield "beside a changed crate: what is proved already is said", status == 0 and said.startswith("2 of 5 are proved already\n3 of 5 are")
@@ -141,11 +139,11 @@ def refused():
         it.write("right", "slow 300")
         began = time.time()
         status, wrote, said = it.ran("./prove", "run")
-        words = "rt: left NOT PROVED" in said and "\ncrates/left/src/lib.rt: error: wrong" in said
+        words = "NOT PROVED: left" in said and "\nsrc/lib.rt: error: wrong" in said
         yield "what isn't proved: 1, and rt's words", (status, wrote, words) == (1, "", True)
         yield "nothing above it is tried, and what ran beside it is ended", "top" not in it.started() and time.time() - began < 100 and not it.left()
         status, _, said = it.ran("./prove", "nobody")
-        yield "a crate that isn't there: 2, and rt's words", status == 2 and "nobody is not listed" in said
+        yield "a crate that isn't there: 2, and its name", status == 2 and "doesn't list all of: nobody" in said
         it.write("low", "wrong")
         (it.at / "crates/low/src/lib.rt").rename(it.at / "crates/low/src/other.rt")
         status, _, said = it.ran("./prove", "low")
@@ -167,7 +165,7 @@ def kits():
 
 def archives():
     with small() as it:
-        status, wrote, said = it.ran("./prove", "--archives", "rt staticlib", "caller")
+        status, wrote, said = it.ran("./prove", "--archives", "target/staticlib", "caller")
         once = sorted(it.started()) == ["caller", "left", "low", "right", "top"]
         yield "an archive: what is below is proved once, and the caller by its archive", (status, wrote, once) == (0, "", True)
         yield "and it is said", "archive 1 of 1: caller\narchive 1 of 1 is made: caller" in said and "all 4 are proved" in said

@@ -4,16 +4,12 @@
 use std::env;
 use std::path::{Path, PathBuf};
 
-/// The folders to look in, the likeliest first. What stands in target/staticlib is for x86-64 alone.
+/// The folders to look in. What stands there is for x86-64 alone, as the kit is.
 fn folders(root: &Path) -> Vec<PathBuf> {
     if let Some(named) = env::var_os("BRACKET_ARCHIVES") {
         return vec![root.join(named)];
     }
-    let native = root.join("target/native");
-    match env::var("CARGO_CFG_TARGET_ARCH").as_deref() {
-        Ok("x86_64") => vec![root.join("target/staticlib"), native],
-        _ => vec![native],
-    }
+    vec![root.join("target/staticlib")]
 }
 
 /// A word in place of the linker's.
