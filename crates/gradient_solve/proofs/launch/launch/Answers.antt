@@ -1,5 +1,4 @@
 use mathlib.Core.Path.{◌∙◌}
-use native.Mathlib.Omega.{arith}
 use Rattle.gradient_definition.specs.Vectors.{preconditioned_is, copied_is}
 use Rattle.gradient_solve.proofs.LaunchLaws.{launch_is}
 use Rattle.gradient_solve.proofs.launch.launch.Goals as goal
