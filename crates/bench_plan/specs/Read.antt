@@ -60,7 +60,7 @@ module _ (s room z : List ℕ) (n p : ℕ) (t : reading.Accepted s room z n p) w
       record {
         few = t.few;
         few_pairs = t.few_pairs;
-        all = rw (t.front, t.second) (omega (arith, reading.pair_numbers s t.right));
+        all = rw (t.front, t.second) (omega (arith, reading.pair_numbers_lem s t.right));
       }
 
   pub read_planned : (o : Out) → Promise planning (given n p (take (2 * p) z)) o → o ≡ planned_for s

@@ -2,7 +2,7 @@
 use Prim.Native.Nat.{ℕ, ◌+◌, ◌*◌, ◌≤◌, ◌<◌}
 use mathlib.Core.Path.{◌≡◌, refl, ap}
 use mathlib.Core.Bool.{Bool, true, false, not}
-use mathlib.Core.List.{List, [], ◌∷◌, ◌++◌, map_append}
+use mathlib.Core.List.{List, [], ◌∷◌, ◌++◌, map-append}
 use native.Mathlib.Omega.{arith}
 use lib.ListN.{length, get_or}
 use lib.Dec.{leb}
@@ -54,7 +54,7 @@ filled_both ((b ∷ w) ∷ p) q = ap (λ (l : List (List ℕ)). (b ∷ w) ∷ l)
 -- a separator parts a text in two. So runs of separators are allowed, and separators at either end
 parted : (a b : List ℕ) (g : ℕ) → is_gap g ≡ true → numbers (a ++ g ∷ b) ≡ numbers a ++ numbers b
 unfolding numbers
-parted a b g h = rw (split a b g h, filled_both (pieces a) (pieces b)) (map_append value (filled (pieces a)) (filled (pieces b)))
+parted a b g h = rw (split a b g h, filled_both (pieces a) (pieces b)) (map-append value (filled (pieces a)) (filled (pieces b)))
 
 no_gap : (w : List ℕ) → all (λ b. not (is_gap b)) w ≡ true → pieces w ≡ w ∷ []
 unfolding pieces all before

@@ -21,7 +21,7 @@ use Rattle.bench_scan.specs.declared.inner.Scan.TheVariants.{Bad, Gap, Word}
 use Rattle.bench_text.specs.Text.{counted, described, particle_count, pair_count, pair_numbers, Known}
 use Rattle.bench_text.specs.Head.{head_of, counted_of}
 use Rattle.bench_text.specs.Nine.{limits}
-use Rattle.bench_text.specs.Reading.{tests, given, left, work, pair_numbers}
+use Rattle.bench_text.specs.Reading.{tests, given, left, work, pair_numbers_lem}
 use Rattle.bench_text.specs.declared.head.Head.{Head}
 use Rattle.bench_text.specs.declared.head.Head.TheVariants.{None, Counts}
 use Rattle.bench_text.specs.declared.inner.Input.TheVariants.{Text}
@@ -120,7 +120,7 @@ module _ (s : List ℕ) (n p : ℕ) (k : Known s n p) where
       let d2 = both (all allowed s) _ d1.1 in
       let d3 = both (all small (numbers s)) (counted (numbers s)) d2.1 in
       let fine : (all allowed s && all small (numbers s)) ≡ true = rw (d2.0, d3.0) in
-      let long : length (pair_numbers s) ≡ length (take (2 * p) room) = pair_numbers s k.right ∙ ap (λ (x : ℕ). 2 * x) (sym k.second)
+      let long : length (pair_numbers s) ≡ length (take (2 * p) room) = pair_numbers_lem s k.right ∙ ap (λ (x : ℕ). 2 * x) (sym k.second)
       ∙ sym (length-take-le (2 * p) room h) in
       let stored : z ≡ pair_numbers s =
       ap (λ (x : State). x.1) st ∙ ((scan_right 2 s (take (2 * p) room)).stored fine ∙ pairs_placed (numbers s) (take (2 * p) room) d3.1 long) in

@@ -86,9 +86,9 @@ pairs_long [] c = absurd (let z : ◌≡◌ {A = ℕ} 0 1 = cc in omega arith)
 pairs_long (n ∷ []) c = absurd (let z : ◌≡◌ {A = ℕ} 0 1 = cc in omega arith)
 pairs_long (n ∷ p ∷ l) c = eqb-true (length l) (2 * p) c
 
-pub pair_numbers : (s : List ℕ) → described s ≡ true → length (pair_numbers s) ≡ 2 * pair_count s
+pub pair_numbers_lem : (s : List ℕ) → described s ≡ true → length (pair_numbers s) ≡ 2 * pair_count s
 unfolding described
-pair_numbers s d =
+pair_numbers_lem s d =
     pairs_long (numbers s) (both (all small (numbers s)) _ (both (all allowed s) _ (both (leb (length s) byteLimit) _ d).1).1).1
 
 pub accepted_of : (s room z : List ℕ) (n p : ℕ) → Reads (given s room) (left (Text n p) z) → Accepted s room z n p
@@ -110,7 +110,7 @@ accepted_of s room z n p r =
       few = rw first (leb-true _ _ f.0);
       few_pairs = rw second (leb-true _ _ f.1.0);
       fits = rw second (leb-true _ _ f.1.1.0);
-      front = rw (second, holds) (take_at (pair_numbers s) (drop (2 * pair_count s) room) (2 * pair_count s) (pair_numbers s d.0));
+      front = rw (second, holds) (take_at (pair_numbers s) (drop (2 * pair_count s) room) (2 * pair_count s) (pair_numbers_lem s d.0));
     }
 
 refused_case : (i : In) (q k : ℕ) (z : List ℕ) → left (Refused k) z ≡ by q (work i) (λ k. refuse k i) → (q ≡ k) × (0 < k)

@@ -43,9 +43,9 @@ module _ (f s : ℕ → ℕ) (v : List Float) (i : ℕ) where
       over_shift (run_step v (s i) y (f i)) (sum_step (look f s v) y i) (f i) i zero32
       (λ c t l. let e : (f i + c) - f i ≡ c = omega arith in rw e)
 
-  pub take_run : (x : Float) (y : List Float) → take_run v (s i) (f i) (i - f i) x y ≡ taken_of f (look f s v) i x y
+  pub take_run_lem : (x : Float) (y : List Float) → take_run v (s i) (f i) (i - f i) x y ≡ taken_of f (look f s v) i x y
   unfolding take_run taken_of
-  take_run x y =
+  take_run_lem x y =
       over_shift (take_step v (s i) (f i) x) (taken_step (look f s v) i x) (f i) i y
       (λ c t l. let e : (f i + c) - f i ≡ c = omega arith in rw e)
 
@@ -64,4 +64,4 @@ module _ (first starts : List ℕ) (v y : List Float) (i from start : ℕ) (a : 
   pub back_turn : (x : Float) (z : List Float) → x ≡ get_or y i nan ⊘ get_or v (start + (i - from)) nan → z ≡ take_run v start from (i - from) x
       (set y i x) → z ≡ back_step (at first) (look (at first) (at starts) v) i y
   unfolding back_step
-  back_turn x z e q = q ∙ rw (e, b, a, take_run (at first) (at starts) v i)
+  back_turn x z e q = q ∙ rw (e, b, a, take_run_lem (at first) (at starts) v i)

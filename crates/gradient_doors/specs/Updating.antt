@@ -1,5 +1,5 @@
 -- THE DOOR `update_preconditioner`: each diagonal block's inverse, or the identity. What it is handed and refuses is `gradient_refusals`'.
-use Rattle.std.specs.Prelude.{ℕ, ◌*◌, ◌≤◌, ◌≡◌, true, List, [], length, Float}
+use Rattle.std.specs.Prelude.{ℕ, ◌*◌, ◌≤◌, ◌≡◌, true, List, length, Float}
 use Rattle.std.proofs.Common.{arith, leb-true}
 use Rattle.law.specs.Mix.{mix}
 use Rattle.law.specs.Room.{enough_is}

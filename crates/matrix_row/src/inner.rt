@@ -1,5 +1,5 @@
 // The row view behind the doors, total on any lists. First with plain parameters; then through a small view that holds the row's part of the
-// caller's column list and its first slot. Each function over the view takes it apart and calls a plain one: its proof walks the compiled code by hand.
+// caller's column list and its first slot. Each function over the view takes it apart and calls a plain one.
 ghost use Rattle.std.specs.Prelude.{◌≡◌, length};
 ghost use Rattle.matrix_row.specs.Row.{span_of, row_first, row_cols, col_or, slot_or};
 
@@ -119,7 +119,7 @@ pub fn slot_at<'a>(v: Row<'a>, j: usize) -> Slot
     slot_or(v.cols, v.first, j)
 }
 
-// The view behind plain parameters: whoever calls this needs no walk.
+// The view behind plain parameters.
 pub fn row_col(row_offsets: &[u32], cols: &[u32], r: usize, j: usize) -> u32
     ensures { result ≡ col_or (row_cols row_offsets.now cols.now r) j }
 {

@@ -117,11 +117,11 @@ module _ (n : ℕ) (starts cols : List ℕ) (row : ℕ) (more rest : List ℕ) (
       (omega (arith, length-append starts more, is_ready.places), (omega (arith, last_same, length-append cols rest, is_ready.columns), tt)) in
       zero_from span_door longer (le-leb n particles is_ready.few, (room, (lt-ltb row n is_ready.row, tt)))
 
-  own_starts : own_starts longer ≡ own_starts i
-  own_starts = take-append-le (n + 1) starts more (omega (arith, is_ready.places))
+  own_starts_lem : own_starts longer ≡ own_starts i
+  own_starts_lem = take-append-le (n + 1) starts more (omega (arith, is_ready.places))
 
-  own_cols : own_cols longer ≡ own_cols i
-  own_cols = ap (λ (k : ℕ). take k (cols ++ rest)) last_same ∙ take-append-le (at starts n) cols rest is_ready.columns
+  own_cols_lem : own_cols longer ≡ own_cols i
+  own_cols_lem = ap (λ (k : ℕ). take k (cols ++ rest)) last_same ∙ take-append-le (at starts n) cols rest is_ready.columns
 
   same_work : {A : Type 0} (d : Door In A) → d.work longer ≡ d.work i → verdict (d.tests longer) ≡ 0 → verdict (d.tests i) ≡ 0
       → outcome d longer ≡ outcome d i
@@ -130,7 +130,7 @@ module _ (n : ℕ) (starts cols : List ℕ) (row : ℕ) (more rest : List ℕ) (
   pub rest_unseen : (outcome span_door longer ≡ outcome span_door i) × ((j : ℕ) → outcome (column_door j) longer ≡ outcome (column_door j) i)
       × ((col : ℕ) → outcome (slot_door col) longer ≡ outcome (slot_door col) i)
   rest_unseen = (
-    same_work span_door (rw (own_starts, own_cols)) accepted_too accepted,
-    λ j. same_work (column_door j) (rw (own_starts, own_cols)) accepted_too accepted,
-    λ col. same_work (slot_door col) (rw (own_starts, own_cols)) accepted_too accepted,
+    same_work span_door (rw (own_starts_lem, own_cols_lem)) accepted_too accepted,
+    λ j. same_work (column_door j) (rw (own_starts_lem, own_cols_lem)) accepted_too accepted,
+    λ col. same_work (slot_door col) (rw (own_starts_lem, own_cols_lem)) accepted_too accepted,
   )

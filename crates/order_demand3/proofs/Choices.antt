@@ -46,6 +46,7 @@ module _ (n : ℕ) (S : ℕ → ℕ → Type 0) (d : ℕ → ℕ) (U : ℕ → T
 
   -- whoever moves more often moves on from where the other stands
   goes_on : (m l s t : ℕ) → m < l → T m s → T l t → Goes s
+  goes_on m zero s t lt p q = absurd (omega arith)
   goes_on m (suc l) s t lt p (move {s = x} {k = k} {j = j} q f e h) = go (below_or m l) (λ le. goes_on m l s x le p q)
     where
       go : (m < l) ⊎ (l ≤ m) → (m < l → Goes s) → Goes s

@@ -15,7 +15,7 @@ use Rattle.matrix_shape.specs.Formed.{Stored}
 use Rattle.matrix_shape.specs.Rows.{at, Pattern}
 use Rattle.order_definition.specs.Order.{neighbours}
 use Rattle.order_definition.specs.Envelope.{place_of, lesser, leftmost, first_block, first_col, row_starts}
-use Rattle.order_definition.proofs.At.{At, first, later, at_nil, at_lt, at_get_or, In, get_or_at as At-getD}
+use Rattle.order_definition.proofs.At.{At, first, later, at_nil, at_lt, at_get_or, In, get_d_at}
 use Rattle.order_definition.proofs.Pigeon.{in_cons, in_head, in_tail}
 use Rattle.order_demand3.specs.Demand.{Ordered, Enveloped}
 use Rattle.order_demand3.proofs.Blocks.{own_block, nb_stored, stored_nb, reaches}
@@ -151,7 +151,7 @@ module _ (n : ℕ) (starts cols diagonal : List ℕ) (p : Pattern n starts cols 
   place w lt =
       let l = ord.listed w lt in
       let h : l.0 < length o = omega (arith, l.1, long) in
-      let a = place_at o w (l.0, subst (λ (x : ℕ). At o l.0 x) l.2 (At-getD o l.0 0 h)) in
+      let a = place_at o w (l.0, subst (λ (x : ℕ). At o l.0 x) l.2 (get_d_at o l.0 0 h)) in
       (omega (arith, at_lt a, long), at_get_or 0 a)
 
   place_of_lem : (j : ℕ) → j < n → place_of o (get_or o j 0) ≡ j

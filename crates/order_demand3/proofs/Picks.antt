@@ -47,8 +47,8 @@ module _ (n : ℕ) (nb : ℕ → List ℕ) where
       back : (v : ℕ) → In v (passing (open_of placed) (numbers n)) → Unplaced n placed v
       back v a = let p = passing_in (open_of placed) (numbers n) v a in (numbers_below n v p.0, open_unplaced placed v p.1)
 
-  far_of : (r : Breadth) → 0 < length r.queue → Least (degree nb) (InLast nb n r) (far_of nb n r)
-  far_of r some = least_as (degree nb) (λ v. In v (passing t r.queue)) (InLast nb n r) _ (least_of (degree nb) n (passing t r.queue) x
+  far_of_lem : (r : Breadth) → 0 < length r.queue → Least (degree nb) (InLast nb n r) (far_of nb n r)
+  far_of_lem r some = least_as (degree nb) (λ v. In v (passing t r.queue)) (InLast nb n r) _ (least_of (degree nb) n (passing t r.queue) x
       (there x (in_held r.queue x a, refl))) back there
     where
       t : ℕ → Bool
@@ -131,7 +131,7 @@ module _ (n : ℕ) (starts cols diagonal : List ℕ) (p : Pattern n starts cols 
           meets = λ w j. in_held r.queue w (meets n S nb stored listed near free v lt fr w j);
           measured = λ w h. measured n S nb stored listed near free v lt fr w (held_in r.queue w h);
           last = λ w h. last_level n S nb stored listed near free v lt fr w (held_in r.queue w h);
-          far = far_of n nb r (reach_sound nb n free near v lt fr n).some;
+          far = far_of_lem n nb r (reach_sound nb n free near v lt fr n).some;
         }
 
   pub picks : Picks n (Stored (at starts) (at cols)) (neighbours (take (n + 1) starts) (take (at starts n) cols))

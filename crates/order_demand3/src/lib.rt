@@ -2,4 +2,3 @@
 // theorems are `demand_3` in proofs/Whole.antt, `untied` in Keys.antt, `sorts` in Sorted.antt, `picks` in Picks.antt and `starts_chosen` in Starts.antt.
 // There is no code.
 #![tactic(auto)]
-

@@ -71,7 +71,7 @@ far_free_at starts cols mark s tight f =
 pub least_free_at : (starts cols mark : List ℕ) → Tight (length mark) starts cols → SomeFree mark
     → FreeAt mark (least (length mark) (degree (neighbours starts cols)) (passing (unmarked mark) (numbers (length mark))))
 least_free_at starts cols mark tight f =
-    let q = least_free (neighbours starts cols) (length mark) (unmarked mark) (near (length mark) starts cols tight) _ f.one f.is_free.below
+    let q = least_free (neighbours starts cols) (length mark) (unmarked mark) (near (length mark) starts cols tight) (degree (neighbours starts cols)) f.one f.is_free.below
     f.is_free.free in
     record { below = q.0; free = q.1 }
 

@@ -3,14 +3,45 @@
 ghost use Rattle.std.specs.Prelude.{◌≤◌, ◌<◌, length};
 ghost use Rattle.replay_tokens.specs.Room.{room};
 
+use std::io;
+use std::io::{Print, Stdout};
+
 pub const ROOM: usize = 4096;
 
-pub type Room = [u8; ROOM];
+// The buffer, where it is written out to, and whether all of that went well: after a write that failed nothing more is written.
+#[derive(Drop)]
+pub struct Room {
+    bytes: [u8; ROOM],
+    stdout: Stdout,
+    written: io::Result<()>,
+}
 
-fn flush(out: &[u8], n: usize)
-    requires { n ≤ length out.now }
+pub fn empty(stdout: Stdout) -> Room {
+    Room {
+        bytes: [0; ROOM],
+        stdout,
+        written: Ok(()),
+    }
+}
+
+// Whether every byte was written out.
+pub fn written(out: Room) -> io::Result<()> {
+    out.written
+}
+
+fn write_front(stdout: Stdout, bytes: &[u8], n: usize) -> io::Result<()>
+    requires { n ≤ length bytes.now }
 {
-    io::write_all(libc::STDOUT_FILENO, &out[0..n]);
+    stdout.write_all(&bytes[..n])
+}
+
+fn flush(out: &mut Room, n: usize)
+    requires { n ≤ room }
+{
+    if out.written.is_err() {
+        return;
+    }
+    out.written = write_front(out.stdout, &out.bytes, n);
 }
 
 fn put(b: u8, out: &mut Room, at: usize) -> usize
@@ -19,10 +50,10 @@ fn put(b: u8, out: &mut Room, at: usize) -> usize
 {
     if at == ROOM {
         flush(out, at);
-        out[0] = b;
+        out.bytes[0] = b;
         return 1;
     }
-    out[at] = b;
+    out.bytes[at] = b;
     at + 1
 }
 
@@ -47,14 +78,29 @@ pub fn word(bytes: &[u8], out: &mut Room, at: usize) -> usize
     put(b' ', out, to)
 }
 
+// The digit of a number below 16, in base 16.
+fn hex_digit(v: u32) -> u8
+    requires { v < 16 }
+{
+    if v < 10 {
+        b'0' + v as u8
+    } else {
+        b'a' + (v as u8 - 10)
+    }
+}
+
 fn pattern(bits: u32, out: &mut Room, at: usize) -> usize
     requires { at ≤ room }
     ensures { (0 < result) × (result ≤ room) }
 {
-    let mut digits = [0u8; 16];
-    let k = io::hex(bits as u64, 8, &mut digits);
+    let mut digits = [0u8; 8];
+    let mut rest = bits;
+    for i in 0..8 {
+        digits[7 - i] = hex_digit(rest % 16);
+        rest /= 16;
+    }
     let to = put(b'x', out, at);
-    word(&digits[..k], out, to)
+    word(&digits, out, to)
 }
 
 // Any NaN is the same word, since the rules leave its bits open.
@@ -86,8 +132,17 @@ pub fn whole(v: u64, out: &mut Room, at: usize) -> usize
     ensures { (0 < result) × (result ≤ room) }
 {
     let mut digits = [0u8; 20];
-    let k = io::decimal(v, &mut digits);
-    word(&digits[..k], out, at)
+    let mut start = 20usize;
+    let mut rest = v;
+    for i in 0..20 {
+        start = 19 - i;
+        digits[start] = b'0' + (rest % 10) as u8;
+        rest /= 10;
+        if rest == 0 {
+            break;
+        }
+    }
+    word(&digits[start..], out, at)
 }
 
 // A list is its length and its items.
@@ -116,7 +171,7 @@ pub fn float_list(list: &[f32], out: &mut Room, at: usize) -> usize
 pub fn end(out: &mut Room, at: usize)
     requires { (0 < at) × (at ≤ room) }
 {
-    out[at - 1] = b'\n';
+    out.bytes[at - 1] = b'\n';
     flush(out, at);
 }
 

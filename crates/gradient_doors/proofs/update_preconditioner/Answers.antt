@@ -2,7 +2,6 @@ use mathlib.Core.Path.{sym, ap, ◌∙◌}
 use Rattle.law.specs.Promise.{refuses, accepts}
 use Rattle.gradient_doors.specs.Updating as updating
 use Rattle.gradient_doors.specs.declared.Updated.TheVariants.{Done}
-use borrow.Author.Rules.{rules}
 use Rattle.gradient_doors.proofs.update_preconditioner.Goals as goal
 
 pub returns-then-no-ne0 : goal.returns-then-no-ne0

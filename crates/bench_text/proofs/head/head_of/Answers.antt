@@ -8,12 +8,12 @@ returns-then-text-gt-BYTES c = head_long _ c.if-text-gt-BYTES.true
 
 pub returns-in-Bad : goal.returns-in-Bad
 returns-in-Bad c =
-    rw c.enum_told-1.given.1 at (head_said _ _ _ c.scanned-s.ensures c.if-text-gt-BYTES.false)
+    rw c.in-Bad.is at (head_said _ _ _ c.scanned-s.ensures c.if-text-gt-BYTES.false)
 
 pub returns-in-Word : goal.returns-in-Word
 returns-in-Word c =
-    rw c.enum_told-in-Word-1.given.1 at (head_said _ _ _ c.scanned-s.ensures c.if-text-gt-BYTES.false)
+    rw c.in-Word.is at (head_said _ _ _ c.scanned-s.ensures c.if-text-gt-BYTES.false)
 
 pub returns-in-Gap : goal.returns-in-Gap
 returns-in-Gap c =
-    c.counts.ensures ∙ rw c.s-1.given.1 at (head_said _ _ _ c.scanned-s.ensures c.if-text-gt-BYTES.false)
+    c.counts.ensures ∙ rw c.in-Gap.is at (head_said _ _ _ c.scanned-s.ensures c.if-text-gt-BYTES.false)

@@ -6,11 +6,11 @@ use Rattle.bench_text.proofs.inner.read.Goals as goal
 
 pub taken-requires : goal.taken-requires
 taken-requires c =
-    head_known _ _ _ (sym c.h-1.given.1 ∙ c.head_of-h.ensures)
+    head_known _ _ _ (sym c.in-Counts.is ∙ c.head_of-h.ensures)
 
 pub returns-in-None : goal.returns-in-None
-returns-in-None c = not_described _ _ _ (head_none _ (sym c.enum_told-1.given.1 ∙ c.head_of-h.ensures))
+returns-in-None c = not_described _ _ _ (head_none _ (sym c.in-None.is ∙ c.head_of-h.ensures))
 
 pub returns-in-Counts : goal.returns-in-Counts
 returns-in-Counts c =
-    is_described _ _ _ _ (head_known _ _ _ (sym c.h-1.given.1 ∙ c.head_of-h.ensures)).right c.taken.ensures
+    is_described _ _ _ _ (head_known _ _ _ (sym c.in-Counts.is ∙ c.head_of-h.ensures)).right c.taken.ensures

@@ -1,10 +1,7 @@
-use mathlib.Core.Path.{◌≡◌, refl, ◌∙◌}
-use Prim.Native.Nat.{◌+◌, ◌-◌, ◌≤◌, zero-le}
-use lib.ListN.{length}
-use Rattle.law.specs.Loop.{over, over_none, over_turn, over_done, over_stays}
-use Rattle.matrix_shape.specs.Rows.{at}
-use Rattle.factor_make.specs.declared.Factored.TheVariants.{Done}
-use Rattle.factor_make.specs.Factor.{state, row_step, factor_of}
+use mathlib.Core.Path.{refl, ◌∙◌}
+use Prim.Native.Nat.{◌+◌, zero-le}
+use Rattle.law.specs.Loop.{over_none, over_turn, over_done, over_stays}
+use Rattle.factor_make.specs.Factor.{row_step, factor_of}
 use borrow.Author.Rules.{rules}
 use Rattle.factor_make.proofs.inner.factorize.Goals as goal
 
@@ -18,18 +15,17 @@ row-r-requires c =
 pub returns-in_default : goal.returns-in_default
 unfolding factor_of row_step
 returns-in_default c =
-    over_stays _ 0 (c.loop-i.i + 1) _ _ _ (over_turn _ 0 _ _ _ _ zero-le c.loop-i.invariant.2 c.row-r.ensures) (λ j. rw c.enum_told-in_default-1.given.1)
+    over_stays _ 0 (c.loop-i.i + 1) _ _ _ (over_turn _ 0 _ _ _ _ zero-le c.loop-i.invariant.2 c.row-r.ensures) (λ j. rw c.in_default.is)
     zero-le (search rules)
 
 pub loop-i-preserved : goal.loop-i-preserved
 unfolding row_step
-loop-i-preserved c =
-    (
-      search rules,
-      c.row-r.auto.1.1.1.1.0 ∙ c.loop-i.invariant.1,
-      over_turn _ 0 _ _ _ _ zero-le c.loop-i.invariant.2
-          (rw (← c.enum_told-1.given.1) c.row-r.ensures),
-    )
+loop-i-preserved c = (
+  search rules,
+  c.row-r.auto.values ∙ c.loop-i.invariant.1,
+  over_turn _ 0 _ _ _ _ zero-le c.loop-i.invariant.2
+      (rw (← c.in-Done.is) c.row-r.ensures),
+)
 
 pub returns : goal.returns
 unfolding factor_of

@@ -1,11 +1,10 @@
-use mathlib.Core.Path.{◌≡◌, refl, ◌∙◌}
-use Prim.Native.Nat.{◌+◌, ◌-◌, ◌≤◌, zero-le}
+use mathlib.Core.Path.{◌≡◌}
+use Prim.Native.Nat.{◌-◌, ◌≤◌}
 use lib.ListN.{length}
-use Rattle.law.specs.Loop.{over, over_none, over_turn, over_done, over_stays}
+use Rattle.law.specs.Loop.{over}
 use Rattle.matrix_shape.specs.Rows.{at}
 use Rattle.factor_make.specs.declared.Factored.TheVariants.{Done}
-use Rattle.factor_make.specs.Factor.{state, row_step, factor_of}
-use borrow.Author.Rules.{rules}
+use Rattle.factor_make.specs.Factor.{state, row_step}
 use Rattle.factor_make.proofs.inner.factorize.Given as goal
 
 abbrev pub invariant-loop-i : goal.invariant-loop-i

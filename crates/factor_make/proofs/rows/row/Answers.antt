@@ -1,7 +1,6 @@
 use Rattle.plan_fits.specs.Cells.{held, corner}
 use Rattle.factor_row.specs.Row.{reach_of}
 use Rattle.factor_make.specs.Factor.{close_of, row_of}
-use borrow.Author.Rules.{rules}
 use native.Mathlib.Omega.{arith}
 use Rattle.factor_make.proofs.rows.row.Goals as goal
 
@@ -16,25 +15,24 @@ left-requires c =
     (record { low_le_i = d.skyline.low c.args.i c.requires.i_lt_rows; by_index = λ j h g. reach_of d c.requires.envelope.whole (record { row = c.requires.i_lt_rows; left = h; upto = omega arith }) })
 
 pub pivot-d-requires : goal.pivot-d-requires
-pivot-d-requires c =
-    (
-      omega arith,
-      omega (
-        arith,
-        c.left.auto.1.1.1.1.1.0,
-        c.wide-begin.ensures.same,
-        c.wide-low.ensures.same,
-        c.requires.envelope.whole,
-        held
-            c.requires.envelope.drawn.skyline (corner c.requires.envelope.drawn.skyline c.args.i c.requires.i_lt_rows),
-      ),
-    )
+pivot-d-requires c = (
+  omega arith,
+  omega (
+    arith,
+    c.left.auto.values,
+    c.wide-begin.ensures.same,
+    c.wide-low.ensures.same,
+    c.requires.envelope.whole,
+    held
+        c.requires.envelope.drawn.skyline (corner c.requires.envelope.drawn.skyline c.args.i c.requires.i_lt_rows),
+  ),
+)
 
 pub bounds-values-end : goal.bounds-values-end
 bounds-values-end c =
     omega (
       arith,
-      c.left.auto.1.1.1.1.1.0,
+      c.left.auto.values,
       c.wide-begin.ensures.same,
       c.wide-low.ensures.same,
       c.requires.envelope.whole,

@@ -1,11 +1,8 @@
-use mathlib.Core.Path.{◌≡◌, refl, ◌∙◌}
-use Prim.Native.Nat.{◌+◌, ◌-◌, ◌≤◌, zero-le}
+use mathlib.Core.Path.{refl, ◌∙◌}
+use Prim.Native.Nat.{zero-le}
 use native.Mathlib.Omega.{arith}
-use lib.ListN.{length}
-use Rattle.law.specs.Loop.{over, over_none, over_turn, over_done}
-use Rattle.matrix_shape.specs.Rows.{at}
-use Rattle.plan_fits.specs.Cells.{look}
-use Rattle.factor_passes.specs.Passes.{back_step, backward_of}
+use Rattle.law.specs.Loop.{over_none, over_turn, over_done}
+use Rattle.factor_passes.specs.Passes.{backward_of}
 use Rattle.factor_passes.specs.Held.{row_of}
 use borrow.Author.Rules.{rules}
 use Rattle.factor_passes.proofs.passes.backward.Goals as goal
@@ -19,7 +16,7 @@ back-requires c =
 
 pub loop-k-preserved : goal.loop-k-preserved
 loop-k-preserved c =
-    (search rules, c.back.auto.1.1.1.1.0 ∙ c.loop-k.invariant.1, over_turn _ 0 _ _ _ _ zero-le c.loop-k.invariant.2 c.back.ensures)
+    (search rules, c.back.auto.y ∙ c.loop-k.invariant.1, over_turn _ 0 _ _ _ _ zero-le c.loop-k.invariant.2 c.back.ensures)
 
 pub returns : goal.returns
 unfolding backward_of

@@ -1,13 +1,10 @@
-use mathlib.Core.Path.{◌≡◌, refl, ◌∙◌}
-use Prim.Native.Nat.{◌+◌, ◌-◌, ◌≤◌, zero-le}
-use native.Mathlib.Omega.{arith}
+use mathlib.Core.Path.{◌≡◌}
+use Prim.Native.Nat.{◌+◌, ◌-◌, ◌≤◌}
 use lib.ListN.{length}
-use Rattle.law.specs.Loop.{over, over_none, over_turn, over_done}
+use Rattle.law.specs.Loop.{over}
 use Rattle.matrix_shape.specs.Rows.{at}
 use Rattle.plan_fits.specs.Cells.{look}
-use Rattle.factor_passes.specs.Passes.{back_step, backward_of}
-use Rattle.factor_passes.specs.Held.{row_of}
-use borrow.Author.Rules.{rules}
+use Rattle.factor_passes.specs.Passes.{back_step}
 use Rattle.factor_passes.proofs.passes.backward.Given as goal
 
 abbrev pub invariant-loop-k : goal.invariant-loop-k

@@ -1,10 +1,8 @@
-use mathlib.Core.Path.{◌≡◌, refl}
-use Prim.Native.Nat.{◌-◌, ◌≤◌, zero-le}
+use mathlib.Core.Path.{refl}
+use Prim.Native.Nat.{zero-le}
 use native.Mathlib.Omega.{arith}
-use lib.ListN.{length, length-set}
-use Rattle.law.specs.Loop.{over, over_none, over_turn, over_done}
-use Rattle.matrix_shape.specs.Rows.{at}
-use Rattle.plan_fits.specs.Cells.{look}
+use lib.ListN.{length-set}
+use Rattle.law.specs.Loop.{over_none, over_turn, over_done}
 use Rattle.factor_passes.specs.Passes.{forward_step, forward_of}
 use Rattle.factor_passes.specs.Held.{row_of}
 use borrow.Author.Rules.{rules}

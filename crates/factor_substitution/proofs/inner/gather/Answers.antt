@@ -1,10 +1,6 @@
 use mathlib.Core.Path.{refl}
-use Prim.Native.Nat.{◌-◌}
 use native.Mathlib.Omega.{arith}
-use Rattle.plane.specs.Lent.{vector_at}
-use Rattle.vectors.specs.Whole.{Front, front_none, front_turn, front_done}
-use Rattle.matrix_shape.specs.Rows.{at}
-use borrow.Author.Rules.{rules}
+use Rattle.vectors.specs.Whole.{front_none, front_turn, front_done}
 use Rattle.factor_substitution.proofs.inner.gather.Goals as goal
 
 pub loop-i-init : goal.loop-i-init
@@ -16,7 +12,7 @@ vector_at-requires c =
 
 pub loop-i-preserved : goal.loop-i-preserved
 loop-i-preserved c =
-    front_turn _ (λ j. refl) _ _ _ _ _ _ c.loop-i.invariant c.loop-i-test.true c.requires.n_in_bounds.2 c.set_vector.ensures c.set_vector.auto.0
+    front_turn _ (λ j. refl) _ _ _ _ _ _ c.loop-i.invariant c.loop-i-test.true c.requires.n_in_bounds.2 c.set_vector.ensures c.set_vector.auto.s
     (λ e. (rw (c.vector_at.ensures, c.wide-j.ensures.same)))
 
 pub returns : goal.returns

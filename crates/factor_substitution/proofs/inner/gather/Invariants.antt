@@ -1,10 +1,7 @@
-use mathlib.Core.Path.{refl}
 use Prim.Native.Nat.{◌-◌}
-use native.Mathlib.Omega.{arith}
 use Rattle.plane.specs.Lent.{vector_at}
-use Rattle.vectors.specs.Whole.{Front, front_none, front_turn, front_done}
+use Rattle.vectors.specs.Whole.{Front}
 use Rattle.matrix_shape.specs.Rows.{at}
-use borrow.Author.Rules.{rules}
 use Rattle.factor_substitution.proofs.inner.gather.Given as goal
 
 abbrev pub invariant-loop-i : goal.invariant-loop-i

@@ -4,7 +4,6 @@ use native.Mathlib.Omega.{arith}
 use Rattle.matrix_shape.specs.Rows.{at}
 use Rattle.factor_passes.specs.Held.{held_of}
 use Rattle.factor_substitution.specs.Calls.{solve_calls}
-use borrow.Author.Rules.{rules}
 use Rattle.factor_substitution.proofs.inner.solve.Goals as goal
 
 pub gather-requires : goal.gather-requires
@@ -13,20 +12,20 @@ gather-requires c =
 
 pub forward-requires : goal.forward-requires
 forward-requires c =
-    (held_of c.requires.plan c.requires.n_in_bounds.0, omega (arith, c.gather.auto.1.1.1.0, c.requires.x_len.1))
+    (held_of c.requires.plan c.requires.n_in_bounds.0, omega (arith, c.gather.auto.out, c.requires.x_len.1))
 
 pub backward-requires : goal.backward-requires
 backward-requires c =
-    (held_of c.requires.plan c.requires.n_in_bounds.0, omega (arith, c.forward.auto.1.1.1.1.0, c.gather.auto.1.1.1.0, c.requires.x_len.1))
+    (held_of c.requires.plan c.requires.n_in_bounds.0, omega (arith, c.forward.auto.y, c.gather.auto.out, c.requires.x_len.1))
 
 pub gather-requires-2 : goal.gather-requires-2
 gather-requires-2 c =
-    let long = c.backward.auto.1.1.1.1.0 ∙ c.forward.auto.1.1.1.1.0 ∙ c.gather.auto.1.1.1.0 ∙ c.requires.x_len.1 in
+    let long = c.backward.auto.y ∙ c.forward.auto.y ∙ c.gather.auto.out ∙ c.requires.x_len.1 in
     (record { n_in_bounds = (c.requires.plan.laid.marks, le_of_eq (sym long), le_of_eq (sym c.requires.x_len.0)); by_index = c.requires.plan.planned.position })
 
 pub clear-requires : goal.clear-requires
 clear-requires c =
-    omega (arith, c.backward.auto.1.1.1.1.0, c.forward.auto.1.1.1.1.0, c.gather.auto.1.1.1.0, c.requires.x_len.1)
+    omega (arith, c.backward.auto.y, c.forward.auto.y, c.gather.auto.out, c.requires.x_len.1)
 
 pub returns : goal.returns
 returns c =
@@ -34,9 +33,9 @@ returns c =
     c.args.values.now c.args.b.now _ _ _ _ _ _ _
     c.requires.x_len.0 c.requires.x_len.1 (omega (
       arith,
-      c.backward.auto.1.1.1.1.0,
-      c.forward.auto.1.1.1.1.0,
-      c.gather.auto.1.1.1.0,
+      c.backward.auto.y,
+      c.forward.auto.y,
+      c.gather.auto.out,
       c.requires.x_len.1,
     ))
     c.gather.ensures c.forward.ensures c.backward.ensures c.gather-2.ensures c.clear.ensures

@@ -1,4 +1,3 @@
-
 use Rattle.gradient_finish.proofs.finish.clamp.Goals as goal
 
 pub returns-then-a : goal.returns-then-a

@@ -1,5 +1,4 @@
 use Rattle.gradient_finish.proofs.Laws.{finish_curvature, finish_limit, finish_zero, finish_near, finish_converged}
-use borrow.Author.Rules.{rules}
 use Rattle.gradient_finish.proofs.finish.finish.Goals as goal
 
 pub returns-in-Curvature : goal.returns-in-Curvature

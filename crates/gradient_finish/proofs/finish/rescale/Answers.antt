@@ -16,7 +16,7 @@ returns-then-alpha c =
     ∙ rescale_some _ _ _ _ _ _ (product_is _ _ _ p.2 _ _ _ _ c.mul.ensures) c.dot_all-denominator.ensures _ _ c.if-denominator.false
     c.dot_all-numerator.ensures c.clamp-alpha.ensures c.if-alpha.true
 
-pub returns : goal.returns
-returns c =
+pub returns-else-alpha : goal.returns-else-alpha
+returns-else-alpha c =
     rescale_all _ _ _ _ _ _ (product_is _ _ _ c.requires.n_in_bounds.2 _ _ _ _ c.mul.ensures) c.dot_all-denominator.ensures _ _ c.if-denominator.false
     c.dot_all-numerator.ensures c.clamp-alpha.ensures c.if-alpha.false

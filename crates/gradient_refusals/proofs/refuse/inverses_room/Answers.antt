@@ -1,6 +1,5 @@
 use Rattle.law.specs.Room.{enough}
 use Rattle.gradient_refusals.specs.Updating.{inverses_room}
-use borrow.Author.Rules.{rules}
 use Rattle.gradient_refusals.proofs.refuse.inverses_room.Goals as goal
 
 pub returns : goal.returns

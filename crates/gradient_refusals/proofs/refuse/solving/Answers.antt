@@ -3,7 +3,6 @@ use Rattle.law.specs.Refusal.{goes_on, stops, ends}
 use Rattle.law.specs.Truth.{refused, passed}
 use Rattle.matrix_shape.specs.Given.{held}
 use Rattle.gradient_refusals.specs.Solving.{refusals}
-use borrow.Author.Rules.{rules}
 use Rattle.gradient_refusals.proofs.refuse.solving.Goals as goal
 
 pub returns-then-n-gt-PARTICLES : goal.returns-then-n-gt-PARTICLES

@@ -5,16 +5,9 @@ use Rattle.gradient_solve.proofs.LaunchLaws.{fresh_is}
 use Rattle.gradient_solve.proofs.launch.fresh.Goals as goal
 
 pub mul-requires : goal.mul-requires
-mul-requires c =
-    let p = c.requires in
-    (record { rows = p.0.rows; n_in_bounds = omega (arith, p.0.values, p.1.1, p.1.2) })
-
-pub lack-requires : goal.lack-requires
-lack-requires c =
-    let p = c.requires.n_in_bounds in
-    omega (arith, p.0, p.2, c.mul.auto.1.1.1.1.1.0)
+mul-requires c = record { rows = c.requires.matrix.rows; n_in_bounds = omega (arith, c.requires.matrix.values) }
 
 pub returns : goal.returns
 returns c =
     let e = c.requires.n_in_bounds.2 in
-    fresh_is _ _ _ _ _ _ (product_is _ _ _ e _ _ _ _ c.mul.ensures) (lacking_is _ _ _ (c.mul.auto.1.1.1.1.1.0 ∙ e) _ c.lack.ensures)
+    fresh_is _ _ _ _ _ _ (product_is _ _ _ e _ _ _ _ c.mul.ensures) (lacking_is _ _ _ (c.mul.auto.out ∙ e) _ c.lack.ensures)

@@ -19,7 +19,7 @@ overflow_cast-diagonal c =
     let s = c.sweep-low in
     let f = c.requires.filling in
     let long = row_length c.args.count c.args.pairs.now c.args.r c.args.n f.row in
-    let kept : length s.new.1.1.1.1.1.1.1.1.1.0 ≡ length c.args.cols.now = written_long _ _ _ _ s.ensures.stored in
+    let kept : length s.new.cols ≡ length c.args.cols.now = written_long _ _ _ _ s.ensures.stored in
     omega (arith, s.ensures.behind, f.slots_small)
 
 pub offset_bounds-cols-own : goal.offset_bounds-cols-own
@@ -27,7 +27,7 @@ offset_bounds-cols-own c =
     let s = c.sweep-low in
     let f = c.requires.filling in
     let long = row_length c.args.count c.args.pairs.now c.args.r c.args.n f.row in
-    let kept : length s.new.1.1.1.1.1.1.1.1.1.0 ≡ length c.args.cols.now = written_long _ _ _ _ s.ensures.stored in
+    let kept : length s.new.cols ≡ length c.args.cols.now = written_long _ _ _ _ s.ensures.stored in
     omega (arith, s.ensures.behind, f.slots_small)
 
 pub bounds-cols-own : goal.bounds-cols-own
@@ -35,7 +35,7 @@ bounds-cols-own c =
     let s = c.sweep-low in
     let f = c.requires.filling in
     let long = row_length c.args.count c.args.pairs.now c.args.r c.args.n f.row in
-    let kept : length s.new.1.1.1.1.1.1.1.1.1.0 ≡ length c.args.cols.now = written_long _ _ _ _ s.ensures.stored in
+    let kept : length s.new.cols ≡ length c.args.cols.now = written_long _ _ _ _ s.ensures.stored in
     omega (arith, s.ensures.behind, f.cols_long)
 
 pub overflow_add-own : goal.overflow_add-own
@@ -43,7 +43,7 @@ overflow_add-own c =
     let s = c.sweep-low in
     let f = c.requires.filling in
     let long = row_length c.args.count c.args.pairs.now c.args.r c.args.n f.row in
-    let kept : length s.new.1.1.1.1.1.1.1.1.1.0 ≡ length c.args.cols.now = written_long _ _ _ _ s.ensures.stored in
+    let kept : length s.new.cols ≡ length c.args.cols.now = written_long _ _ _ _ s.ensures.stored in
     omega (arith, s.ensures.behind, f.slots_small)
 
 pub sweep-high-requires : goal.sweep-high-requires
@@ -51,16 +51,21 @@ sweep-high-requires c =
     let s = c.sweep-low in
     let f = c.requires.filling in
     let long = row_length c.args.count c.args.pairs.now c.args.r c.args.n f.row in
-    let kept : length s.new.1.1.1.1.1.1.1.1.1.0 ≡ length c.args.cols.now = written_long _ _ _ _ s.ensures.stored in
-    let l = f.row in (record { given = c.requires.given; from_le_to = (omega arith, omega arith, f.links_long); chain = chain_raise _ _ _ _ _ _ _ c.args.r (c.args.r + 1) (omega arith) (omega arith)
-              (λ v u w q. let e : v ≡ c.args.r = omega arith in never _ _ _ (rw e at q)) s.ensures.chain; to_in_bounds = rw length-set (omega (arith, s.ensures.behind, f.cols_long)) })
+    let kept : length s.new.cols ≡ length c.args.cols.now = written_long _ _ _ _ s.ensures.stored in
+    let l = f.row in (record {
+      given = c.requires.given;
+      from_le_to = (omega arith, omega arith, f.links_long);
+      chain = chain_raise _ _ _ _ _ _ _ c.args.r (c.args.r + 1) (omega arith) (omega arith)
+          (λ v u w q. let e : v ≡ c.args.r = omega arith in never _ _ _ (rw e at q)) s.ensures.chain;
+      to_in_bounds = rw length-set (omega (arith, s.ensures.behind, f.cols_long));
+    })
 
 pub returns : goal.returns
 returns c =
     let s = c.sweep-low in
     let f = c.requires.filling in
     let long = row_length c.args.count c.args.pairs.now c.args.r c.args.n f.row in
-    let kept : length s.new.1.1.1.1.1.1.1.1.1.0 ≡ length c.args.cols.now = written_long _ _ _ _ s.ensures.stored in
+    let kept : length s.new.cols ≡ length c.args.cols.now = written_long _ _ _ _ s.ensures.stored in
     let t = c.sweep-high in
     record {
       behind = omega (arith, s.ensures.behind, t.ensures.behind);

@@ -27,7 +27,9 @@ fill_row-at-requires c =
     let rise = start_rise n p (r + 1) n (omega arith) in
     let there : get_or c.loop-r.diagonal r 0 ≡ get_or c.args.diagonal.now r 0 =
     ap (λ (t : List ℕ). get_or t r 0) inv.4 ∙ written_other c.args.diagonal.now 0 (table (slot_of n p) r) r 0
-    (inr (omega (arith, length_table (slot_of n p) r))) in (record { given = c.requires.given; filling = record {
+    (inr (omega (arith, length_table (slot_of n p) r))) in (record {
+      given = c.requires.given;
+      filling = record {
         row = l;
         links_long = f.links_long;
         starts_long = omega (arith, written_long _ _ _ _ inv.2, f.starts_long);
@@ -35,7 +37,8 @@ fill_row-at-requires c =
         slots_small = omega (arith, inv.1, f.slots_small);
         diagonal_long = omega (arith, written_long _ _ _ _ inv.4, f.diagonal_long);
         chain = rw there (f.listed.chain r l);
-      } })
+      };
+    })
 
 pub loop-r-preserved : goal.loop-r-preserved
 unfolding start_of slot_of

@@ -17,7 +17,7 @@ pin_marked-requires c =
 
 pub loop-row-preserved : goal.loop-row-preserved
 loop-row-preserved c =
-    (search rules, over_turn _ 0 _ _ _ _ zero-le c.loop-row.invariant.1 c.pin_marked.ensures, c.pin_marked.auto.1.1.1.1.1.1.0 ∙ c.loop-row.invariant.2)
+    (search rules, over_turn _ 0 _ _ _ _ zero-le c.loop-row.invariant.1 c.pin_marked.ensures, c.pin_marked.auto.blocks ∙ c.loop-row.invariant.2)
 
 pub returns : goal.returns
 unfolding pinned_marked

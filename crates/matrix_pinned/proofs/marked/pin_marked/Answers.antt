@@ -5,7 +5,7 @@ use Rattle.matrix_pinned.proofs.marked.pin_marked.Goals as goal
 pub make_dirichlet-requires : goal.make_dirichlet-requires
 make_dirichlet-requires c =
     let p = c.requires in
-    (record { pattern = p.0.pattern; row_lt_n = p.1; n_in_bounds = p.0.blocks })
+    (record { pattern = p.reach.pattern; row_lt_n = p.row_lt_n; n_in_bounds = p.reach.blocks })
 
 pub returns-then-marks-row-ne0 : goal.returns-then-marks-row-ne0
 returns-then-marks-row-ne0 c =

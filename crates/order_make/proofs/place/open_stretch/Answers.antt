@@ -13,11 +13,18 @@ returns-then-h-len c =
 
 pub find_start-s-requires : goal.find_start-s-requires
 find_start-s-requires c =
-    (record { tight = c.requires.tight; mark_len_bound = c.requires.mark_len_bound; level_len = c.requires.level_len; queue_len = c.requires.queue_len; table_of = c.requires.table_of; some_free = some_free (length c.args.mark.now) c.args.row_offsets.now c.args.cols.now
-                  c.args.degrees.now c.requires.tight c.requires.table_of (take c.args.len c.args.order.now) c.args.order.now
-                  c.args.mark.now c.args.len c.args.h c.requires.stands
-                  (below_in (length c.args.mark.now) (take c.args.len c.args.order.now) c.requires.below)
-                  (omega (arith, c.if-h-len.false, c.requires.h_in_bounds)) })
+    (record {
+      tight = c.requires.tight;
+      mark_len_bound = c.requires.mark_len_bound;
+      level_len = c.requires.level_len;
+      queue_len = c.requires.queue_len;
+      table_of = c.requires.table_of;
+      some_free = some_free (length c.args.mark.now) c.args.row_offsets.now c.args.cols.now
+          c.args.degrees.now c.requires.tight c.requires.table_of (take c.args.len c.args.order.now) c.args.order.now
+          c.args.mark.now c.args.len c.args.h c.requires.stands
+          (below_in (length c.args.mark.now) (take c.args.len c.args.order.now) c.requires.below)
+          (omega (arith, c.if-h-len.false, c.requires.h_in_bounds));
+    })
 
 pub overflow_cast-order : goal.overflow_cast-order
 overflow_cast-order c =

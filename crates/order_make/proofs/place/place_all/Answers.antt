@@ -12,24 +12,33 @@ use Rattle.order_make.proofs.Standing.{none_stand, open_asks, open_gives, who_be
 use Rattle.order_make.proofs.place.place_all.Goals as goal
 
 pub loop-h-init : goal.loop-h-init
-loop-h-init c =
-    (
-      omega arith,
-      refl,
-      c.requires.level_len,
-      c.requires.queue_len,
-      none_stand (length c.args.mark.now) c.args.row_offsets.now c.args.cols.now
-          c.args.degrees.now c.requires.tight c.requires.table_of c.args.order.now c.args.mark.now c.requires.order_len
-          c.requires.mark_value,
-    )
+loop-h-init c = (
+  omega arith,
+  refl,
+  c.requires.level_len,
+  c.requires.queue_len,
+  none_stand (length c.args.mark.now) c.args.row_offsets.now c.args.cols.now
+      c.args.degrees.now c.requires.tight c.requires.table_of c.args.order.now c.args.mark.now c.requires.order_len
+      c.requires.mark_value,
+)
 
 pub open_stretch-len-requires : goal.open_stretch-len-requires
 open_stretch-len-requires c =
     let l = c.loop-h in
     let lt : l.h < (length c.args.mark.now) = omega (arith, c.loop-h-test.true, l.invariant.4.long) in
-    open_asks (length c.args.mark.now) c.args.row_offsets.now c.args.cols.now c.args.degrees.now c.requires.tight
+    let a = open_asks (length c.args.mark.now) c.args.row_offsets.now c.args.cols.now c.args.degrees.now c.requires.tight
     c.requires.table_of l.h l.len l.order l.mark l.level l.queue lt l.invariant.1 c.requires.mark_len_bound l.invariant.2 l.invariant.3
-    l.invariant.4
+    l.invariant.4 in
+    record {
+      tight = a.0;
+      mark_len_bound = a.1.0;
+      level_len = a.1.1.0;
+      queue_len = a.1.1.1.0;
+      table_of = a.1.1.1.1.0;
+      stands = a.1.1.1.1.1.0;
+      below = a.1.1.1.1.1.1.0;
+      h_in_bounds = a.1.1.1.1.1.1.1;
+    }
 
 pub bounds-order-h : goal.bounds-order-h
 bounds-order-h c =
@@ -41,7 +50,7 @@ bounds-order-h c =
     ) in
     let f = c.open_stretch-len in
     let g = open_gives (length c.args.mark.now) c.args.row_offsets.now c.args.cols.now c.args.degrees.now c.requires.tight
-    c.requires.table_of l.h l.len f.result l.order l.mark f.new.1.1.1.0 f.new.1.1.1.1.0 l.invariant.1
+    c.requires.table_of l.h l.len f.result l.order l.mark f.new.order f.new.mark l.invariant.1
     l.invariant.4 f.ensures in
     omega (arith, lt, g.long)
 
@@ -51,19 +60,24 @@ visit-len-requires c =
     let lt : l.h < (length c.args.mark.now) = omega (
       arith,
       c.loop-h-test.true,
-      l.inv.4.long,
+      l.invariant.4.long,
     ) in
     let f = c.open_stretch-len in
     let g = open_gives (length c.args.mark.now) c.args.row_offsets.now c.args.cols.now c.args.degrees.now c.requires.tight
-    c.requires.table_of l.h l.len f.result l.order l.mark f.new.1.1.1.0 f.new.1.1.1.1.0 l.inv.1
-    l.inv.4 f.ensures in
+    c.requires.table_of l.h l.len f.result l.order l.mark f.new.order f.new.mark l.invariant.1
+    l.invariant.4 f.ensures in
     let v = c.wide-v.result in
     let pv = c.wide-v.ensures.same in
-    let ml = f.auto.1.1.1.1.0 ∙ l.inv.1 in (record { row_at = rows_at (length c.args.mark.now) c.args.row_offsets.now c.args.cols.now c.requires.tight v
+    let ml = f.auto.mark ∙ l.invariant.1 in (record {
+      row_at = rows_at (length c.args.mark.now) c.args.row_offsets.now c.args.cols.now c.requires.tight v
           (who_below (length c.args.mark.now) c.args.row_offsets.now c.args.cols.now c.args.degrees.now c.requires.tight
-          c.requires.table_of l.h f.result f.new.1.1.1.0 f.new.1.1.1.1.0 lt g v pv); below = subst (λ (m : ℕ). Below m c.args.cols.now) (sym ml) (cols_below (length c.args.mark.now) c.args.row_offsets.now
-            c.args.cols.now c.requires.tight); degrees_len = c.requires.table_of.long ∙ sym ml; v_in_bounds = room (length c.args.mark.now) c.args.row_offsets.now c.args.cols.now c.args.degrees.now c.requires.tight
-              c.requires.table_of l.h f.result f.new.1.1.1.0 f.new.1.1.1.1.0 lt g v pv })
+          c.requires.table_of l.h f.result f.new.order f.new.mark lt g v pv);
+      below = subst (λ (m : ℕ). Below m c.args.cols.now) (sym ml) (cols_below (length c.args.mark.now) c.args.row_offsets.now
+          c.args.cols.now c.requires.tight);
+      degrees_len = c.requires.table_of.long ∙ sym ml;
+      v_in_bounds = room (length c.args.mark.now) c.args.row_offsets.now c.args.cols.now c.args.degrees.now c.requires.tight
+          c.requires.table_of l.h f.result f.new.order f.new.mark lt g v pv;
+    })
 
 pub overflow_add-h : goal.overflow_add-h
 overflow_add-h c =
@@ -71,7 +85,7 @@ overflow_add-h c =
     let lt : l.h < (length c.args.mark.now) = omega (
       arith,
       c.loop-h-test.true,
-      l.inv.4.long,
+      l.invariant.4.long,
     ) in
     omega (arith, lt, c.requires.mark_len_bound)
 
@@ -81,7 +95,7 @@ loop-h-smaller c =
     let lt : l.h < (length c.args.mark.now) = omega (
       arith,
       c.loop-h-test.true,
-      l.inv.4.long,
+      l.invariant.4.long,
     ) in
     omega (arith, lt)
 
@@ -91,26 +105,26 @@ loop-h-preserved c =
     let lt : l.h < (length c.args.mark.now) = omega (
       arith,
       c.loop-h-test.true,
-      l.inv.4.long,
+      l.invariant.4.long,
     ) in
     let f = c.open_stretch-len in
     let g = open_gives (length c.args.mark.now) c.args.row_offsets.now c.args.cols.now c.args.degrees.now c.requires.tight
-    c.requires.table_of l.h l.len f.result l.order l.mark f.last.1.1.1.0 f.last.1.1.1.1.0 l.inv.1
-    l.inv.4 f.ensures in
+    c.requires.table_of l.h l.len f.result l.order l.mark f.new.order f.new.mark l.invariant.1
+    l.invariant.4 f.ensures in
     let w = c.visit-len in
     let v = c.wide-v.result in
     let pv = c.wide-v.ensures.same in
     let s = visited_stands (length c.args.mark.now) c.args.row_offsets.now c.args.cols.now c.args.degrees.now c.requires.tight
-    c.requires.table_of l.h f.result f.last.1.1.1.0 f.last.1.1.1.1.0 lt g v w.result w.new.1.1.1.0
-    w.new.1.1.1.1.0 pv w.auto.1.1.1.0 w.ensures in (
+    c.requires.table_of l.h f.result f.new.order f.new.mark lt g v w.result w.new.order
+    w.new.mark pv w.auto.order w.ensures in (
       omega (arith, lt),
-      w.auto.1.1.1.1.0 ∙ f.kept.1.1.1.1.0 ∙ l.inv.1,
-      f.kept.1.1.1.1.1.0 ∙ l.inv.2,
-      f.kept.1.1.1.1.1.1.0 ∙ l.inv.3,
+      w.auto.mark ∙ f.auto.mark ∙ l.invariant.1,
+      f.auto.level ∙ l.invariant.2,
+      f.auto.queue ∙ l.invariant.3,
       subst (λ (k : ℕ). Stands (length c.args.mark.now)
           (placing (start_after (neighbours c.args.row_offsets.now c.args.cols.now) (length c.args.mark.now))
-          (fresh (neighbours c.args.row_offsets.now c.args.cols.now) (length c.args.mark.now)) k) w.new.1.1.1.0
-          w.new.1.1.1.1.0 w.result) (sym (add-one l.h)) s,
+          (fresh (neighbours c.args.row_offsets.now c.args.cols.now) (length c.args.mark.now)) k) w.new.order
+          w.new.mark w.result) (sym (add-one l.h)) s,
     )
 
 pub returns : goal.returns

@@ -7,23 +7,23 @@ pub sort_by_key-requires : goal.sort_by_key-requires
 sort_by_key-requires c =
     let f = c.append_open-end in
     rw c.requires.degrees_len (sort_below c.args.row_offsets.now c.args.cols.now c.args.degrees.now c.args.order.now
-    c.args.mark.now c.args.v c.args.len f.result c.requires.v_in_bounds f.ensures.0 (length c.args.mark.now) c.requires.below _
-    f.ensures.1)
+    c.args.mark.now c.args.v c.args.len f.result c.requires.v_in_bounds f.ensures.value (length c.args.mark.now) c.requires.below _
+    f.ensures.order_after)
 
 pub mark_all-requires : goal.mark_all-requires
 mark_all-requires c =
     let f = c.append_open-end in
     mark_below c.args.row_offsets.now c.args.cols.now c.args.degrees.now c.args.order.now c.args.mark.now c.args.v
-    c.args.len f.result c.requires.v_in_bounds f.ensures.0 (length c.args.mark.now) c.requires.below _
+    c.args.len f.result c.requires.v_in_bounds f.ensures.value (length c.args.mark.now) c.requires.below _
     (put c.args.row_offsets.now c.args.cols.now c.args.degrees.now c.args.order.now c.args.mark.now c.args.v
-    c.args.len f.result c.requires.v_in_bounds f.ensures.0 (length c.args.mark.now) c.requires.below _ _ f.ensures.1
+    c.args.len f.result c.requires.v_in_bounds f.ensures.value (length c.args.mark.now) c.requires.below _ _ f.ensures.order_after
     c.sort_by_key.ensures)
 
 pub returns : goal.returns
 returns c =
     let f = c.append_open-end in
     done c.args.row_offsets.now c.args.cols.now c.args.degrees.now c.args.order.now c.args.mark.now c.args.v
-    c.args.len f.result c.requires.v_in_bounds f.ensures.0 (length c.args.mark.now) c.requires.below _ _
+    c.args.len f.result c.requires.v_in_bounds f.ensures.value (length c.args.mark.now) c.requires.below _ _
     (put c.args.row_offsets.now c.args.cols.now c.args.degrees.now c.args.order.now c.args.mark.now c.args.v
-    c.args.len f.result c.requires.v_in_bounds f.ensures.0 (length c.args.mark.now) c.requires.below _ _ f.ensures.1
+    c.args.len f.result c.requires.v_in_bounds f.ensures.value (length c.args.mark.now) c.requires.below _ _ f.ensures.order_after
     c.sort_by_key.ensures) c.mark_all.ensures

@@ -14,7 +14,7 @@ pub loop-head-init : goal.loop-head-init
 loop-head-init c =
     let e = c.clear.ensures ∙ ap (λ (k : ℕ). replicate k 0) c.requires.level_len in (
       omega arith,
-      simp length-set (c.clear.auto.0 ∙ c.requires.level_len),
+      simp length-set (c.clear.auto.list ∙ c.requires.level_len),
       simp length-set c.requires.queue_len,
       begun (length c.args.mark.now) c.args.row_offsets.now c.args.cols.now c.args.mark.now c.requires.tight c.args.s
           c.requires.s_in_bounds c.requires.s_value c.args.queue.now _ (omega (arith, c.requires.queue_len, c.requires.s_in_bounds)) e,
@@ -100,14 +100,14 @@ loop-head-preserved c =
     let step = row_step (length c.args.mark.now) c.args.row_offsets.now c.args.cols.now c.args.mark.now c.requires.tight c.args.s
     c.requires.s_in_bounds c.requires.s_value l.head l.len l.queue l.level l.invariant.3 (omega arith) v (get_or l.level v 0 + 1)
     c.wide-v.ensures.same refl in
-    let st = subst (λ (r : Breadth). Searched r m.new.1.1.1.1.0 m.new.1.1.1.0 m.result)
+    let st = subst (λ (r : Breadth). Searched r m.new.queue m.new.level m.result)
     (step ∙ ap (λ (k : ℕ). reach (neighbours c.args.row_offsets.now c.args.cols.now) (length c.args.mark.now)
     (unmarked c.args.mark.now) c.args.s k) (sym (add-one l.head))) m.ensures in
     let q = queue_short (length c.args.mark.now) c.args.row_offsets.now c.args.cols.now c.args.mark.now c.requires.tight c.args.s
     c.requires.s_in_bounds c.requires.s_value l.head in (
       omega (arith, l.invariant.3.size),
-      m.auto.1.1.1.0 ∙ l.invariant.1,
-      m.auto.1.1.1.1.0 ∙ l.invariant.2,
+      m.auto.level ∙ l.invariant.1,
+      m.auto.queue ∙ l.invariant.2,
       st,
     )
 

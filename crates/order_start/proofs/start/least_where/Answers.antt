@@ -1,7 +1,6 @@
 use Prim.Native.Nat.{ℕ, suc, ◌+◌, ◌-◌, ◌≤◌, ◌<◌}
 use native.Mathlib.Numerals.{add-one}
 use native.Mathlib.Omega.{arith}
-use mathlib.Core.Logic.{⊎_elim}
 use mathlib.Core.Path.{◌≡◌, sym, ap, ◌∙◌}
 use mathlib.Core.List.{List}
 use lib.Seq.{take_all}
@@ -12,6 +11,7 @@ use Rattle.order_definition.specs.Order.{least, passing}
 use Rattle.order_definition.specs.Keys.{key_of, valued, offer}
 use Rattle.order_definition.proofs.Choosing.{best_le, best_yes, best_no}
 use Rattle.order_start.proofs.start.least_where.Goals as goal
+use Rattle.order_start.proofs.start.least_where.Goals.{then-vals-w, else-vals-w}
 
 pub offset_bounds-vals-w : goal.offset_bounds-vals-w
 offset_bounds-vals-w c =
@@ -49,20 +49,20 @@ loop-k-preserved c =
       ),
       rw (add-one l.k) e,
     ) in
-    ⊎_elim
-    (λ t. done c.if-vals-w.best (t.2 ∙ t.1.ensures
-    ∙ ap (λ (x : ℕ). offer (length c.args.degrees.now) (key_of c.args.degrees.now) x w) l.invariant.2
-    ∙ ap (λ (x : ℕ). offer (length c.args.degrees.now) (key_of c.args.degrees.now)
-    (least (length c.args.degrees.now) (key_of c.args.degrees.now) (passing (valued c.args.vals.now c.args.want)
-    (take l.k c.args.list.now))) x) pw
-    ∙ sym (best_yes (length c.args.degrees.now) (key_of c.args.degrees.now) (valued c.args.vals.now c.args.want)
-    c.args.list.now c.requires.below l.k lt (ap (λ (x : ℕ). valued c.args.vals.now c.args.want x) (sym pw)
-    ∙ eq-eqb (get_or c.args.vals.now w 0) c.args.want t.0.taken))))
-    (λ t. done c.if-vals-w.best (t.1 ∙ l.invariant.2
-    ∙ sym (best_no (length c.args.degrees.now) (key_of c.args.degrees.now) (valued c.args.vals.now c.args.want) c.args.list.now
-    c.requires.below l.k lt (ap (λ (x : ℕ). valued c.args.vals.now c.args.want x) (sym pw) ∙ ne_eqb (get_or c.args.vals.now w 0)
-    c.args.want t.0.left))))
-    c.if-vals-w.branch
+    elim c.if-vals-w.branch [
+      | then-vals-w t ↦ done c.if-vals-w.best (t.best-is ∙ t.lower_of-best.ensures
+          ∙ ap (λ (x : ℕ). offer (length c.args.degrees.now) (key_of c.args.degrees.now) x w) l.invariant.2
+          ∙ ap (λ (x : ℕ). offer (length c.args.degrees.now) (key_of c.args.degrees.now)
+          (least (length c.args.degrees.now) (key_of c.args.degrees.now) (passing (valued c.args.vals.now c.args.want)
+          (take l.k c.args.list.now))) x) pw
+          ∙ sym (best_yes (length c.args.degrees.now) (key_of c.args.degrees.now) (valued c.args.vals.now c.args.want)
+          c.args.list.now c.requires.below l.k lt (ap (λ (x : ℕ). valued c.args.vals.now c.args.want x) (sym pw)
+          ∙ eq-eqb (get_or c.args.vals.now w 0) c.args.want t.if-vals-w.true)))
+      | else-vals-w t ↦ done c.if-vals-w.best (t.best-is ∙ l.invariant.2
+          ∙ sym (best_no (length c.args.degrees.now) (key_of c.args.degrees.now) (valued c.args.vals.now c.args.want) c.args.list.now
+          c.requires.below l.k lt (ap (λ (x : ℕ). valued c.args.vals.now c.args.want x) (sym pw) ∙ ne_eqb (get_or c.args.vals.now w 0)
+          c.args.want t.if-vals-w.false)))
+    ]
 
 pub returns : goal.returns
 returns c =

@@ -15,7 +15,7 @@ pub overflow_sub-len : goal.overflow_sub-len
 overflow_sub-len c =
     let f = c.explore-len in
     some (length c.args.mark.now) c.args.row_offsets.now c.args.cols.now c.args.mark.now c.requires.tight c.args.s
-    c.requires.free_at.below c.requires.free_at.free f.new.1.1.1.1.0 f.new.1.1.1.0 f.result f.ensures
+    c.requires.free_at.below c.requires.free_at.free f.new.queue f.new.level f.result f.ensures
 
 pub offset_bounds-queue-len : goal.offset_bounds-queue-len
 offset_bounds-queue-len c =
@@ -23,10 +23,10 @@ offset_bounds-queue-len c =
     omega (
       arith,
       some (length c.args.mark.now) c.args.row_offsets.now c.args.cols.now c.args.mark.now c.requires.tight c.args.s
-          c.requires.free_at.below c.requires.free_at.free f.new.1.1.1.1.0 f.new.1.1.1.0 f.result f.ensures,
+          c.requires.free_at.below c.requires.free_at.free f.new.queue f.new.level f.result f.ensures,
       len_le
           (length c.args.mark.now) c.args.row_offsets.now c.args.cols.now c.args.mark.now c.requires.tight c.args.s
-          c.requires.free_at.below c.requires.free_at.free f.new.1.1.1.1.0 f.new.1.1.1.0 f.result f.ensures,
+          c.requires.free_at.below c.requires.free_at.free f.new.queue f.new.level f.result f.ensures,
       c.requires.mark_len_bound,
     )
 
@@ -36,11 +36,11 @@ bounds-queue-len c =
     omega (
       arith,
       some (length c.args.mark.now) c.args.row_offsets.now c.args.cols.now c.args.mark.now c.requires.tight c.args.s
-          c.requires.free_at.below c.requires.free_at.free f.new.1.1.1.1.0 f.new.1.1.1.0 f.result f.ensures,
+          c.requires.free_at.below c.requires.free_at.free f.new.queue f.new.level f.result f.ensures,
       len_le
           (length c.args.mark.now) c.args.row_offsets.now c.args.cols.now c.args.mark.now c.requires.tight c.args.s
-          c.requires.free_at.below c.requires.free_at.free f.new.1.1.1.1.0 f.new.1.1.1.0 f.result f.ensures,
-      f.auto.1.1.1.1.0,
+          c.requires.free_at.below c.requires.free_at.free f.new.queue f.new.level f.result f.ensures,
+      f.auto.queue,
       c.requires.queue_len,
     )
 
@@ -51,8 +51,8 @@ offset_bounds-level-last c =
       arith,
       c.wide-last.ensures.same,
       last_below (length c.args.mark.now) c.args.row_offsets.now c.args.cols.now
-          c.args.mark.now c.requires.tight c.args.s c.requires.free_at.below c.requires.free_at.free f.new.1.1.1.1.0
-          f.new.1.1.1.0 f.result f.ensures,
+          c.args.mark.now c.requires.tight c.args.s c.requires.free_at.below c.requires.free_at.free f.new.queue
+          f.new.level f.result f.ensures,
       c.requires.mark_len_bound,
     )
 
@@ -63,9 +63,9 @@ bounds-level-last c =
       arith,
       c.wide-last.ensures.same,
       last_below (length c.args.mark.now) c.args.row_offsets.now c.args.cols.now
-          c.args.mark.now c.requires.tight c.args.s c.requires.free_at.below c.requires.free_at.free f.new.1.1.1.1.0
-          f.new.1.1.1.0 f.result f.ensures,
-      f.auto.1.1.1.0,
+          c.args.mark.now c.requires.tight c.args.s c.requires.free_at.below c.requires.free_at.free f.new.queue
+          f.new.level f.result f.ensures,
+      f.auto.level,
       c.requires.level_len,
     )
 
@@ -75,36 +75,43 @@ slice_bounds-least_where-end c =
     omega (
       arith,
       len_le (length c.args.mark.now) c.args.row_offsets.now c.args.cols.now c.args.mark.now c.requires.tight c.args.s
-          c.requires.free_at.below c.requires.free_at.free f.new.1.1.1.1.0 f.new.1.1.1.0 f.result f.ensures,
-      f.auto.1.1.1.1.0,
+          c.requires.free_at.below c.requires.free_at.free f.new.queue f.new.level f.result f.ensures,
+      f.auto.queue,
       c.requires.queue_len,
     )
 
 pub slice_bounds-least_where-end-2 : goal.slice_bounds-least_where-end-2
 slice_bounds-least_where-end-2 c =
     let f = c.explore-len in
-    sym (length-take-le f.result f.new.1.1.1.1.0
+    sym (length-take-le f.result f.new.queue
     (omega (
       arith,
       len_le (length c.args.mark.now) c.args.row_offsets.now c.args.cols.now c.args.mark.now c.requires.tight
-          c.args.s c.requires.free_at.below c.requires.free_at.free f.new.1.1.1.1.0 f.new.1.1.1.0 f.result
+          c.args.s c.requires.free_at.below c.requires.free_at.free f.new.queue f.new.level f.result
           f.ensures,
-      f.auto.1.1.1.1.0,
+      f.auto.queue,
       c.requires.queue_len,
     )))
 
 pub least_where-far-requires : goal.least_where-far-requires
 least_where-far-requires c =
-    let f = c.explore-len in (record { below = subst (λ (k : ℕ). Below k (take f.result f.new.1.1.1.1.0)) (sym c.requires.table_of.long)
+    let f = c.explore-len in (record {
+      below = subst (λ (k : ℕ). Below k (take f.result f.new.queue)) (sym c.requires.table_of.long)
           (part_below (length c.args.mark.now) c.args.row_offsets.now c.args.cols.now c.args.mark.now c.requires.tight c.args.s
-          c.requires.free_at.below c.requires.free_at.free f.new.1.1.1.1.0 f.new.1.1.1.0 f.result f.ensures); vals_len = omega (arith, f.auto.1.1.1.0, c.requires.level_len, c.requires.table_of.long); degrees_len_bound = omega (arith, c.requires.table_of.long, c.requires.mark_len_bound) })
+          c.requires.free_at.below c.requires.free_at.free f.new.queue f.new.level f.result f.ensures);
+      vals_len = omega (arith, f.auto.level, c.requires.level_len, c.requires.table_of.long);
+      degrees_len_bound = omega (arith, c.requires.table_of.long, c.requires.mark_len_bound);
+    })
 
 pub returns : goal.returns
 returns c =
     let f = c.explore-len in
     let d = deep_is (length c.args.mark.now) c.args.row_offsets.now c.args.cols.now c.args.mark.now c.requires.tight c.args.s
-    c.requires.free_at.below c.requires.free_at.free f.new.1.1.1.1.0 f.new.1.1.1.0 f.result f.ensures
-    c.wide-last.result c.wide-last.ensures.same in (record { far_value = c.least_where-far.ensures ∙ far_is (length c.args.mark.now) c.args.row_offsets.now c.args.cols.now c.args.mark.now c.requires.tight
-          c.args.s c.requires.free_at.below c.requires.free_at.free f.new.1.1.1.1.0 f.new.1.1.1.0 f.result
-          f.ensures c.args.degrees.now (get_or f.new.1.1.1.0 c.wide-last.result 0) c.requires.table_of
-          d; deep_value = d })
+    c.requires.free_at.below c.requires.free_at.free f.new.queue f.new.level f.result f.ensures
+    c.wide-last.result c.wide-last.ensures.same in (record {
+      far_value = c.least_where-far.ensures ∙ far_is (length c.args.mark.now) c.args.row_offsets.now c.args.cols.now c.args.mark.now c.requires.tight
+          c.args.s c.requires.free_at.below c.requires.free_at.free f.new.queue f.new.level f.result
+          f.ensures c.args.degrees.now (get_or f.new.level c.wide-last.result 0) c.requires.table_of
+          d;
+      deep_value = d;
+    })

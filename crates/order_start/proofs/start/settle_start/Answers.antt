@@ -21,7 +21,7 @@ look-seen-requires c =
 pub returns-then-seen-deep : goal.returns-then-seen-deep
 returns-then-seen-deep c =
     let l = c.loop-k in
-    let e = c.look-seen.ensures.1 in
+    let e = c.look-seen.ensures.deep_value in
     sym (settle_stop (neighbours c.args.row_offsets.now c.args.cols.now) (length c.args.mark.now) (unmarked c.args.mark.now)
     l.k l.s l.far l.deep (omega arith) (omega (arith, e, c.if-seen-deep.true))) ∙ l.invariant.5
 
@@ -31,13 +31,13 @@ loop-k-preserved c =
     let f = c.look-seen in
     let j = l.k - 1 in
     let step = settle_go (neighbours c.args.row_offsets.now c.args.cols.now) (length c.args.mark.now) (unmarked c.args.mark.now)
-    l.k l.s l.far l.deep (omega arith) (omega (arith, f.ensures.1, c.if-seen-deep.false)) in (
+    l.k l.s l.far l.deep (omega arith) (omega (arith, f.ensures.deep_value, c.if-seen-deep.false)) in (
       omega arith,
-      f.auto.1.1.1.1.0 ∙ l.invariant.1,
-      f.auto.1.1.1.1.1.0 ∙ l.invariant.2,
+      f.auto.level ∙ l.invariant.1,
+      f.auto.queue ∙ l.invariant.2,
       l.invariant.4,
-      rw f.ensures.0 (far_free_at c.args.row_offsets.now c.args.cols.now c.args.mark.now l.far c.requires.tight l.invariant.4),
-      rw (f.ensures.0, f.ensures.1) (sym step ∙ l.invariant.5),
+      rw f.ensures.far_value (far_free_at c.args.row_offsets.now c.args.cols.now c.args.mark.now l.far c.requires.tight l.invariant.4),
+      rw (f.ensures.far_value, f.ensures.deep_value) (sym step ∙ l.invariant.5),
     )
 
 pub returns : goal.returns

@@ -10,7 +10,7 @@ use Rattle.order_start.proofs.Settling.{settle_stop, settle_go, far_free_at, non
 use Rattle.order_start.proofs.start.settle_start.Given as goal
 
 abbrev pub invariant-loop-k : goal.invariant-loop-k
-invariant-loop-k l =     (l.k ≤ 4) × (length l.level ≡ length l.mark) × (length l.queue ≡ length l.mark) × FreeAt l.mark l.s × FreeAt l.mark l.far
+invariant-loop-k l = (l.k ≤ 4) × (length l.level ≡ length l.mark) × (length l.queue ≡ length l.mark) × FreeAt l.mark l.s × FreeAt l.mark l.far
     × (settle (neighbours l.row_offsets l.cols) (length l.mark) (unmarked l.mark) l.k l.s l.far l.deep ≡ settle (neighbours l.row_offsets l.cols) (length l.mark) (unmarked l.mark) 4
     l.start l.away l.depth)
 

@@ -1,5 +1,4 @@
 use Prim.Native.Nat.{◌-◌}
-use borrow.Author.Rules.{rules}
 use Rattle.replay_tokens.proofs.list.behind_all.Given as goal
 
 abbrev pub invariant-loop : goal.invariant-loop

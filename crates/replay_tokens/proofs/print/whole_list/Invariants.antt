@@ -1,6 +1,5 @@
 use Prim.Native.Nat.{◌-◌, ◌≤◌}
 use lib.ListN.{length}
-use borrow.Author.Rules.{rules}
 use Rattle.replay_tokens.specs.Room.{room}
 use Rattle.replay_tokens.proofs.print.whole_list.Given as goal
 

@@ -4,7 +4,6 @@ use lib.Dec.{T}
 use lib.Ieee.{binary32}
 use lib.Ieee.Bits.{nan_bits_above}
 use borrow.Author.Tests.{le-ltb}
-use borrow.Author.Rules.{rules}
 use Rattle.replay_tokens.proofs.word.real.Goals as goal
 
 pub float_from_bits-result : goal.float_from_bits-result

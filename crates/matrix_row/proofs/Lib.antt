@@ -1,2 +1,0 @@
-mod Apart
-mod Lent
