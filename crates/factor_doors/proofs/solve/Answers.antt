@@ -1,7 +1,6 @@
-use mathlib.Core.Path.{sym, ◌∙◌, refl}
+use mathlib.Core.Path.{sym, ◌∙◌}
 use Rattle.law.specs.Promise.{refuses, accepts}
 use Rattle.factor_doors.specs.Solving.{door, ready}
-use borrow.Author.Rules.{rules}
 use Rattle.factor_doors.proofs.solve.Goals as goal
 
 pub returns-then-no-ne0 : goal.returns-then-no-ne0

@@ -1,5 +1,4 @@
 use Rattle.abi_floats.specs.Handed.{too_short, handed_out}
-use borrow.Author.Rules.{rules}
 use Rattle.abi_floats.proofs.lent.vector.Goals as goal
 
 pub returns-then-out-lt2 : goal.returns-then-out-lt2

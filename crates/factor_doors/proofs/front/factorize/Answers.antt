@@ -2,7 +2,6 @@ use mathlib.Core.Path.{sym, ◌∙◌}
 use lib.Seq.{length-take-le}
 use Rattle.plan_fits.specs.Given.{factor_length}
 use Rattle.factor_doors.specs.Factorizing.{whole_is}
-use borrow.Author.Rules.{rules}
 use Rattle.factor_doors.proofs.front.factorize.Goals as goal
 
 pub slice_bounds-factorize_matrix-end : goal.slice_bounds-factorize_matrix-end

@@ -1,7 +1,6 @@
 use mathlib.Core.Path.{sym}
 use lib.Seq.{length-take-le}
 use Rattle.factor_doors.specs.Solving.{whole_is}
-use borrow.Author.Rules.{rules}
 use Rattle.factor_doors.proofs.front.solve.Goals as goal
 
 pub slice_bounds-solve-end-2 : goal.slice_bounds-solve-end-2

@@ -4,7 +4,6 @@ use Rattle.law.specs.Truth.{refused, passed}
 use Rattle.matrix_shape.specs.Given.{held, pattern}
 use Rattle.plan_fits.specs.Given.{laid}
 use Rattle.factor_doors.specs.Factorizing.{refusals}
-use borrow.Author.Rules.{rules}
 use Rattle.factor_doors.proofs.refuse.factorizing.Goals as goal
 
 pub returns-then-n-gt-PARTICLES : goal.returns-then-n-gt-PARTICLES
@@ -53,8 +52,11 @@ returns-then-not-pattern_formed c =
 
 pub fits-requires : goal.fits-requires
 fits-requires c =
-    let few = c.if-n-gt-PARTICLES.false in (record { pattern = pattern _ _ _ _ few (passed _ _ c.pattern_room.ensures c.if-not-pattern_room.false-raw) (passed _ _ c.pattern_formed.ensures
-          c.if-not-pattern_formed.false-raw); laid = laid _ _ _ _ _ few (passed _ _ c.plan_room.ensures c.if-not-plan_room.false-raw) })
+    let few = c.if-n-gt-PARTICLES.false in (record {
+      pattern = pattern _ _ _ _ few (passed _ _ c.pattern_room.ensures c.if-not-pattern_room.false-raw) (passed _ _ c.pattern_formed.ensures
+          c.if-not-pattern_formed.false-raw);
+      laid = laid _ _ _ _ _ few (passed _ _ c.plan_room.ensures c.if-not-plan_room.false-raw);
+    })
 
 pub returns-then-not-fits : goal.returns-then-not-fits
 unfolding refusals
@@ -66,7 +68,7 @@ returns-then-not-fits c =
     c.if-not-plan_room.false-raw)
     (goes_on _ _ _ _ (passed _ _ c.factor_room.ensures c.if-not-factor_room.false-raw)
     (goes_on _ _ _ _ (passed _ _ c.pattern_formed.ensures c.if-not-pattern_formed.false-raw)
-    (stops _ _ _ (refused _ _ c.before.fits2.ensures c.if-not-fits.true-raw))))))
+    (stops _ _ _ (refused _ _ c.fits.ensures c.if-not-fits.true-raw))))))
 
 pub short-requires : goal.short-requires
 short-requires c =
@@ -84,7 +86,7 @@ returns-then-not-short c =
     (goes_on _ _ _ _ (passed _ _ c.factor_room.ensures
     c.if-not-factor_room.false-raw)
     (goes_on _ _ _ _ (passed _ _ c.pattern_formed.ensures c.if-not-pattern_formed.false-raw)
-    (goes_on _ _ _ _ (passed _ _ c.before.before.before.fits2.ensures c.if-not-fits.false-raw)
+    (goes_on _ _ _ _ (passed _ _ c.fits.ensures c.if-not-fits.false-raw)
     (stops _ _ _ (refused _ _ c.short.ensures c.if-not-short.true-raw)))))))
 
 pub returns : goal.returns
@@ -98,6 +100,6 @@ returns c =
     (goes_on _ _ _ _ (passed _ _ c.factor_room.ensures
     c.if-not-factor_room.false-raw)
     (goes_on _ _ _ _ (passed _ _ c.pattern_formed.ensures c.if-not-pattern_formed.false-raw)
-    (goes_on _ _ _ _ (passed _ _ c.before.before.before.fits2.ensures c.if-not-fits.false-raw)
+    (goes_on _ _ _ _ (passed _ _ c.fits.ensures c.if-not-fits.false-raw)
     (goes_on _ _ _ _ (passed _ _ c.short.ensures c.if-not-short.false-raw)
     ends))))))

@@ -1,4 +1,3 @@
-use borrow.Author.Rules.{rules}
 use Rattle.factor_doors.proofs.refuse.short.Goals as goal
 
 pub returns : goal.returns

@@ -1,6 +1,5 @@
 use Rattle.law.specs.Room.{enough}
 use Rattle.factor_doors.specs.Solving.{values_room}
-use borrow.Author.Rules.{rules}
 use Rattle.factor_doors.proofs.refuse.solve_room.Goals as goal
 
 pub returns : goal.returns

@@ -3,7 +3,6 @@ use Rattle.law.specs.Refusal.{goes_on, stops, ends}
 use Rattle.law.specs.Truth.{refused, passed}
 use Rattle.plan_fits.specs.Given.{laid}
 use Rattle.factor_doors.specs.Solving.{refusals}
-use borrow.Author.Rules.{rules}
 use Rattle.factor_doors.proofs.refuse.solving.Goals as goal
 
 pub returns-then-n-gt-PARTICLES : goal.returns-then-n-gt-PARTICLES

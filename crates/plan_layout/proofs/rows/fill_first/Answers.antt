@@ -17,13 +17,12 @@ bounds-first-i-in-loop-i c =
     rw length-set (omega (arith, c.loop-i.invariant.2, c.loop-i-test.true, c.requires.1))
 
 pub loop-i-preserved : goal.loop-i-preserved
-loop-i-preserved c =
-    (
-      search rules,
-      firsts_put _ _ _ _ _ c.loop-i.i _ c.loop-i.invariant.1 (ap (λ (k : ℕ). 2 * k) c.first_block.ensures.same),
-      rw
-          (length-set, length-set) c.loop-i.invariant.2,
-    )
+loop-i-preserved c = (
+  search rules,
+  firsts_put _ _ _ _ _ c.loop-i.i _ c.loop-i.invariant.1 (ap (λ (k : ℕ). 2 * k) c.first_block.ensures.same),
+  rw
+      (length-set, length-set) c.loop-i.invariant.2,
+)
 
 pub returns : goal.returns
 returns c =

@@ -26,13 +26,12 @@ bounds-inverse-c c =
     )
 
 pub loop-k-preserved : goal.loop-k-preserved
-loop-k-preserved c =
-    (
-      search rules,
-      search rules,
-      over_turn _ _ _ _ _ _ c.loop-k.invariant.0 c.loop-k.invariant.2
-          (rw (c.lesser-least.ensures, c.wide.ensures.same, c.wide-c.ensures.same)),
-    )
+loop-k-preserved c = (
+  search rules,
+  search rules,
+  over_turn _ _ _ _ _ _ c.loop-k.invariant.0 c.loop-k.invariant.2
+      (rw (c.lesser-least.ensures, c.wide.ensures.same, c.wide-c.ensures.same)),
+)
 
 pub returns : goal.returns
 unfolding walked

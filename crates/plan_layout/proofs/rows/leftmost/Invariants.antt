@@ -9,7 +9,7 @@ use Rattle.plan_layout.specs.Leftmost.{walked}
 use Rattle.plan_layout.proofs.rows.leftmost.Given as goal
 
 abbrev pub invariant-loop-k : goal.invariant-loop-k
-invariant-loop-k l = (l.from ≤ l.k) × (l.k ≤ l.to) × (l.least ≡ over (λ l.k l.b. lesser l.b (at l.inverse (at l.cols l.k))) l.from l.k l.b)
+invariant-loop-k l = (l.from ≤ l.k) × (l.k ≤ l.to) × (l.least ≡ over (λ k b. lesser b (at l.inverse (at l.cols k))) l.from l.k l.b)
 
 abbrev pub decreases-loop-k : goal.decreases-loop-k
 decreases-loop-k l = l.to - l.k

@@ -13,16 +13,16 @@ reverse_cuthill_mckee-requires c =
 pub invert-requires : goal.invert-requires
 invert-requires c =
     let w = c.reverse_cuthill_mckee in
-    let m = w.auto.1.1.1.1.1.0 ∙ c.requires.1.level in
+    let m = w.auto.level ∙ c.requires.1.level in
     (order_listed _ _ _ c.requires.0 _ _ m w.ensures, omega (arith, m, c.requires.0.few))
 
 pub envelope-requires : goal.envelope-requires
 envelope-requires c =
     let w = c.reverse_cuthill_mckee in
-    order_laid _ _ _ c.requires.0 _ _ (w.kept.1.1.1.1.1.0 ∙ c.requires.1.level) w.ensures _ c.invert.ensures
+    order_laid _ _ _ c.requires.0 _ _ (w.auto.level ∙ c.requires.1.level) w.ensures _ c.invert.ensures
 
 pub returns : goal.returns
 returns c =
     let w = c.reverse_cuthill_mckee in
-    order_measured _ _ _ c.requires.0 _ _ (w.kept.1.1.1.1.1.0 ∙ c.requires.1.level) w.ensures _ _
+    order_measured _ _ _ c.requires.0 _ _ (w.auto.level ∙ c.requires.1.level) w.ensures _ _
     c.invert.ensures c.envelope.ensures

@@ -10,17 +10,17 @@ pub settle-requires : goal.settle-requires
 settle-requires c =
     let m = c.measure-len in
     let same = c.requires.1.1.queue in
-    (measured_laid _ _ _ c.requires.0 _ _ _ _ same m.ensures, rw (m.auto.1.1.1.1.1.1.0 ∙ same) c.requires.1.0)
+    (measured_laid _ _ _ c.requires.0 _ _ _ _ same m.ensures, rw (m.auto.queue ∙ same) c.requires.1.0)
 
 pub clear_all-requires : goal.clear_all-requires
 clear_all-requires c =
     let m = c.measure-len in
-    desk_kept _ _ c.requires.1.1 _ _ _ _ _ m.kept.1.1.0 m.kept.1.1.1.0 m.kept.1.1.1.1.0 m.kept.1.1.1.1.1.0
-    m.kept.1.1.1.1.1.1.0
+    desk_kept _ _ c.requires.1.1 _ _ _ _ _ m.auto.degrees m.auto.placed m.auto.mark m.auto.level
+    m.auto.queue
 
 pub returns : goal.returns
 returns c =
     let m = c.measure-len in
     let same = c.requires.1.1.queue in
     made_is _ _ _ c.requires.0 _ _ _ _ same m.ensures _ _ _ _ c.settle.ensures
-    (m.kept.1.1.1.1.1.1.0 ∙ same) c.clear_all.ensures
+    (m.auto.queue ∙ same) c.clear_all.ensures

@@ -25,7 +25,7 @@ fill_first-requires c =
 pub fill_starts-requires : goal.fill_starts-requires
 fill_starts-requires c =
     let f = c.fill_first in
-    let long = f.auto.1.1.1.1.0 in
+    let long = f.auto.first in
     (record { row_start_len = (omega (arith, long, c.requires.1.first, c.requires.1.rows), omega (arith, long, c.requires.1.first, c.requires.0.few)); by_index = firsts_most _ _ _ _ _ f.ensures })
 
 pub returns : goal.returns
