@@ -12,7 +12,7 @@ use Rattle.law.specs.Refusal.{verdict, all_pass, none_fails, when}
 use Rattle.law.specs.Promise.{by, outcome}
 use Rattle.gradient_definition.specs.Vectors.{zeros}
 use Rattle.gradient_doors.specs.Solving.{vectors_room}
-use Rattle.step_routes.specs.Dense.{step_held, structural, later, step_held}
+use Rattle.step_routes.specs.Dense.{step_held, structural, later, step_held_lem}
 use Rattle.step_solve.specs.Stepping as S
 use Rattle.columns_make.specs.Making as M
 use Rattle.columns_make.specs.Making.{In, dense, refusals, in_order}
@@ -37,7 +37,7 @@ module _ (i : In) (v : verdict (refusals i) ≡ 0) (p k : ℕ) where
   held =
       let none = zeros i.n in
       let f = all_pass 1 (refusals i) (omega arith) (in_order i) v in
-      let q = step_held (dense i) i.n i.row_offsets i.cols i.diagonal i.blocks i.perm i.inv_perm i.first i.row_start
+      let q = step_held_lem (dense i) i.n i.row_offsets i.cols i.diagonal i.blocks i.perm i.inv_perm i.first i.row_start
       i.values i.preconditioner i.rhs i.rhs i.scratch i.residual i.direction i.a_direction i.z f.1.0 in
       let e = enough_is true (vectors_room i.n i.row_offsets i.blocks i.preconditioner i.rhs i.rhs i.residual i.direction
       i.a_direction i.z) q.1 in

@@ -72,21 +72,21 @@ module _ (n : ℕ) (order inverse first starts : List ℕ) (values : List Float)
   pub when_laid : (d : Bool) → n ≤ particles → when d (plan_held n order inverse first starts values) ≡ true → d ≡ true → Laid n order inverse first starts
   when_laid d l h e = held_laid l (when_is d _ h e)
 
-  pub plan_held : (t c : List ℕ) → n ≤ particles → plan_held n order inverse first starts values ≡ true → fits_ok n (at t) (at c) (at order)
+  pub plan_held_lem : (t c : List ℕ) → n ≤ particles → plan_held n order inverse first starts values ≡ true → fits_ok n (at t) (at c) (at order)
       (at inverse) (at first) (at starts) ≡ true
       → Plan n order inverse first starts
   unfolding fits_ok
-  plan_held t c l h f = plan_of n order inverse first starts (held_laid l h) (both (plan_rules_ok n (at order) (at inverse) (at first) (at starts)) _ f).0
+  plan_held_lem t c l h f = plan_of n order inverse first starts (held_laid l h) (both (plan_rules_ok n (at order) (at inverse) (at first) (at starts)) _ f).0
 
 module _ (d : Bool) (n : ℕ) (starts cols diagonal : List ℕ) (blocks : List Float) (order inverse first begins : List ℕ)
     (values preconditioner b x scratch residual direction a_direction z : List Float) where
-  pub step_held : step_held d n starts cols diagonal blocks order inverse first begins values preconditioner b x scratch residual direction a_direction
+  pub step_held_lem : step_held d n starts cols diagonal blocks order inverse first begins values preconditioner b x scratch residual direction a_direction
       z ≡ true
       → (enough true (pattern_room n starts cols diagonal) ≡ true)
       × (enough true (vectors_room n starts blocks preconditioner b x residual direction a_direction z) ≡ true)
       × (when d (plan_held n order inverse first begins values) ≡ true) × (when d (leb (2 * n) (length scratch)) ≡ true)
   unfolding step_held
-  step_held h =
+  step_held_lem h =
       let p = both (enough true (pattern_room n starts cols diagonal) && enough true (vectors_room n starts blocks preconditioner b x residual direction
       a_direction z)) _ h in
       let q = both (enough true (pattern_room n starts cols diagonal)) _ p.0 in
@@ -96,7 +96,7 @@ module _ (d : Bool) (n : ℕ) (starts cols diagonal : List ℕ) (blocks : List F
   pub roomy : n ≤ particles → step_held d n starts cols diagonal blocks order inverse first begins values preconditioner b x scratch residual direction
       a_direction z ≡ true
       → Roomy d n starts cols diagonal order inverse first begins
-  roomy l h = record { few = l; room = (step_held h).0; laid = when_laid n order inverse first begins values d l (step_held h).2 }
+  roomy l h = record { few = l; room = (step_held_lem h).0; laid = when_laid n order inverse first begins values d l (step_held_lem h).2 }
 
 -- ---- the two parts of a step solve's last tests: k is what the first part came to
 

@@ -16,7 +16,7 @@ use Rattle.gradient_doors.specs.Solving as G
 use Rattle.step_solve.specs.declared.Stepped.{Stepped}
 use Rattle.step_solve.specs.declared.Stepped.TheVariants.{Refused, Direct, Iterated}
 use Rattle.step_solve.specs.Said.{stepped_said}
-use Rattle.step_routes.specs.Dense.{cleared, swept, step_held, structural, later, held_values, plan_held, step_held}
+use Rattle.step_routes.specs.Dense.{cleared, swept, step_held, structural, later, held_values, plan_held_lem, step_held_lem}
 
 pub record In : Type 0 where
   pub n : ℕ
@@ -156,7 +156,7 @@ pub ready : (i : In) → verdict (refusals i) ≡ 0 → Ready i
 unfolding refusals later structural G.refusals factor_length
 ready i h =
     let p = all_pass 1 (refusals i) (omega arith) (in_order i) h in
-    let q = step_held (dense i) i.n i.row_offsets i.cols i.diagonal i.blocks i.perm i.inv_perm i.first i.row_start
+    let q = step_held_lem (dense i) i.n i.row_offsets i.cols i.diagonal i.blocks i.perm i.inv_perm i.first i.row_start
     i.values i.preconditioner i.b i.x i.scratch i.residual i.direction i.a_direction i.z p.1.0 in
     let l = p.1.1 in
     let g = G.ready (for_iterative i i.x) (none_fails (G.refusals (for_iterative i i.x)) (p.0, (q.0, (q.1, (l.0, (l.1.1.1.0, tt)))))) in
@@ -165,7 +165,7 @@ ready i h =
       planned = λ d.
           let t = when_is (dense i) _ q.2 d in
           record {
-            plan = plan_held i.n i.perm i.inv_perm i.first i.row_start i.values i.row_offsets i.cols g.few t
+            plan = plan_held_lem i.n i.perm i.inv_perm i.first i.row_start i.values i.row_offsets i.cols g.few t
                 (when_is (dense i) _ l.1.0 d);
             values = held_values i.n i.perm i.inv_perm i.first i.row_start i.values t;
             b = g.b;

@@ -13,11 +13,11 @@ loop-e-init c = (zero-le, over_none _ 0 _, refl)
 pub load_one-requires : goal.load_one-requires
 load_one-requires c =
     let p = c.requires in
-    (record { entries = p.0; e_lt_count = (c.loop-e-test.true, omega (arith, p.1, c.loop-e.invariant.2)) })
+    (record { entries = p.entries; e_lt_count = (c.loop-e-test.true, omega (arith, p.n_in_bounds, c.loop-e.invariant.2)) })
 
 pub loop-e-preserved : goal.loop-e-preserved
 loop-e-preserved c =
-    (search rules, over_turn _ 0 _ _ _ _ zero-le c.loop-e.invariant.1 c.load_one.ensures, c.load_one.auto.1.1.1.1.1.1.0 ∙ c.loop-e.invariant.2)
+    (search rules, over_turn _ 0 _ _ _ _ zero-le c.loop-e.invariant.1 c.load_one.ensures, c.load_one.auto.rhs ∙ c.loop-e.invariant.2)
 
 pub returns : goal.returns
 unfolding loaded

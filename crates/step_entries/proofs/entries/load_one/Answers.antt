@@ -7,27 +7,27 @@ use Rattle.step_entries.proofs.entries.load_one.Goals as goal
 pub is_free-requires : goal.is_free-requires
 is_free-requires c =
     let p = c.requires in
-    (omega (arith, p.0.names, p.1.0), omega (arith, p.0.inside _ p.1.0, p.0.marks))
+    (omega (arith, p.entries.names, p.e_lt_count.0), omega (arith, p.entries.inside _ p.e_lt_count.0, p.entries.marks))
 
 pub bounds-particles-e : goal.bounds-particles-e
 bounds-particles-e c =
     let p = c.requires in
-    omega (arith, p.0.names, p.1.0)
+    omega (arith, p.entries.names, p.e_lt_count.0)
 
 pub vector_at-gradient-requires : goal.vector_at-gradient-requires
 vector_at-gradient-requires c =
     let p = c.requires in
-    omega (arith, p.0.parts, p.1.0)
+    omega (arith, p.entries.parts, p.e_lt_count.0)
 
 pub vector_at-requires : goal.vector_at-requires
 vector_at-requires c =
     let p = c.requires in
-    omega (arith, c.wide-p.ensures.same, p.0.inside _ p.1.0, p.1.1)
+    omega (arith, c.wide-p.ensures.same, p.entries.inside _ p.e_lt_count.0, p.e_lt_count.1)
 
 pub set_vector-requires : goal.set_vector-requires
 set_vector-requires c =
     let p = c.requires in
-    omega (arith, c.wide-p.ensures.same, p.0.inside _ p.1.0, p.1.1)
+    omega (arith, c.wide-p.ensures.same, p.entries.inside _ p.e_lt_count.0, p.e_lt_count.1)
 
 pub returns-then-is_free : goal.returns-then-is_free
 returns-then-is_free c =

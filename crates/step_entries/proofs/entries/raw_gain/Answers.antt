@@ -12,7 +12,7 @@ loop-e-init c = (zero-le, over_none _ 0 _)
 pub gain_one-sum-requires : goal.gain_one-sum-requires
 gain_one-sum-requires c =
     let p = c.requires in
-    (record { entries = p.0; e_lt_count = (c.loop-e-test.true, p.1) })
+    (record { entries = p.entries; e_lt_count = (c.loop-e-test.true, p.n_in_bounds) })
 
 pub loop-e-preserved : goal.loop-e-preserved
 loop-e-preserved c =

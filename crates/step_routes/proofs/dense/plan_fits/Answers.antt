@@ -8,7 +8,7 @@ returns-then-not-dense c = skips _ _ c.if-not-dense.true-raw
 pub fits-requires : goal.fits-requires
 fits-requires c =
     let p = c.requires in
-    (record { pattern = p.0; laid = p.1 (not-false _ c.if-not-dense.false-raw) })
+    (record { pattern = p.pattern; laid = p.laid (not-false _ c.if-not-dense.false-raw) })
 
 pub returns : goal.returns
-returns c = applies _ _ _ c.if-not-dense.false-raw c.fits2.ensures
+returns c = applies _ _ _ c.if-not-dense.false-raw c.fits.ensures

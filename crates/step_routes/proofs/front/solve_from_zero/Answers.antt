@@ -5,7 +5,7 @@ use Rattle.step_routes.proofs.front.solve_from_zero.Goals as goal
 
 pub solve-requires : goal.solve-requires
 solve-requires c =
-    ready_with _ _ c.clear.auto.1.0 c.requires
+    ready_with _ _ c.clear.auto.x c.requires
 
 pub returns : goal.returns
 returns c =

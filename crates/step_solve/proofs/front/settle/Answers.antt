@@ -4,9 +4,9 @@ use borrow.Author.Rules.{rules}
 use Rattle.step_solve.proofs.front.settle.Goals as goal
 
 pub returns-in-Refused : goal.returns-in-Refused
-returns-in-Refused c = rw c.how-1.given.1 (refl, refl)
+returns-in-Refused c = rw c.in-Refused.is (refl, refl)
 
 pub returns-in-Failed : goal.returns-in-Failed
 unfolding renewed
 returns-in-Failed c =
-    rw c.how-in-Failed-1.given.1 (refl, c.update_preconditioner.ensures)
+    rw c.in-Failed.is (refl, c.update_preconditioner.ensures)
