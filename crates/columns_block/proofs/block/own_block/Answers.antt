@@ -8,12 +8,12 @@ use Rattle.columns_block.proofs.block.own_block.Goals as goal
 pub vector_at-u-requires : goal.vector_at-u-requires
 vector_at-u-requires c =
     let p = c.requires in
-    omega (arith, column_long _ _ _ _ _ _ p.0 p.1.0 (omega arith) p.1.1 c.column.ensures, p.1.0)
+    omega (arith, column_long _ _ _ _ _ _ p.readable p.p_lt_n.0 (omega arith) p.p_lt_n.1 c.column.ensures, p.p_lt_n.0)
 
 pub vector_at-v-requires : goal.vector_at-v-requires
 vector_at-v-requires c =
     let p = c.requires in
-    omega (arith, column_long _ _ _ _ _ _ p.0 p.1.0 (omega arith) p.1.1 c.column-2.ensures, p.1.0)
+    omega (arith, column_long _ _ _ _ _ _ p.readable p.p_lt_n.0 (omega arith) p.p_lt_n.1 c.column-2.ensures, p.p_lt_n.0)
 
 pub returns : goal.returns
 returns c =

@@ -14,7 +14,7 @@ loop-e-init c = (zero-le, over_none _ 0 _, refl)
 pub add_entry-requires : goal.add_entry-requires
 add_entry-requires c =
     let p = c.requires in
-    (record { readable = p.0; entries = p.1.0; e_lt_count = (c.loop-e-test.true, omega (arith, p.1.1, c.loop-e.invariant.2)) })
+    (record { readable = p.readable; entries = p.entries; e_lt_count = (c.loop-e-test.true, omega (arith, p.n_in_bounds, c.loop-e.invariant.2)) })
 
 pub returns-then-add_entry : goal.returns-then-add_entry
 unfolding summed
@@ -27,7 +27,7 @@ loop-e-preserved c =
     (
       search rules,
       over_turn _ 0 _ _ _ _ zero-le c.loop-e.invariant.1 (rw (← c.if-add_entry.false) c.add_entry.ensures),
-      c.add_entry.auto.1.1.1.1.1.1.1.1.0 ∙ c.loop-e.invariant.2,
+      c.add_entry.auto.out ∙ c.loop-e.invariant.2,
     )
 
 pub returns : goal.returns

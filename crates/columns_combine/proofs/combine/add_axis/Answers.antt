@@ -13,7 +13,7 @@ returns-then-column_of-p c = axis_missing _ _ _ _ _ _ _ c.if-weight.false c.if-c
 pub advance-requires : goal.advance-requires
 advance-requires c =
     let p = c.requires in
-    (omega (arith, column_long _ _ _ _ _ _ p.0 p.1.0 p.1.1 c.if-column_of-p.false c.column.ensures), p.1.2)
+    (omega (arith, column_long _ _ _ _ _ _ p.readable p.p_lt_n.0 p.p_lt_n.1 c.if-column_of-p.false c.column.ensures), p.p_lt_n.2)
 
 pub returns : goal.returns
 returns c =

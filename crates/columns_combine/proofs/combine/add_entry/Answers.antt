@@ -6,7 +6,7 @@ use Rattle.columns_combine.proofs.combine.add_entry.Goals as goal
 pub bounds-pinned-p : goal.bounds-pinned-p
 bounds-pinned-p c =
     let p = c.requires in
-    omega (arith, c.wide-p.ensures.same, p.1.0.inside _ p.1.1.0, p.1.0.marks)
+    omega (arith, c.wide-p.ensures.same, p.entries.inside _ p.e_lt_count.0, p.entries.marks)
 
 pub returns-then-pinned-p-ne0 : goal.returns-then-pinned-p-ne0
 returns-then-pinned-p-ne0 c = entry_skipped _ _ _ _ _ _ _ _ _ c.wide-p.ensures.same c.if-pinned-p-ne0.true
@@ -14,7 +14,7 @@ returns-then-pinned-p-ne0 c = entry_skipped _ _ _ _ _ _ _ _ _ c.wide-p.ensures.s
 pub add_axis-requires : goal.add_axis-requires
 add_axis-requires c =
     let p = c.requires in
-    (record { readable = p.0; p_lt_n = (omega (arith, c.wide-p.ensures.same, p.1.0.inside _ p.1.1.0), omega arith, p.1.1.1) })
+    (record { readable = p.readable; p_lt_n = (omega (arith, c.wide-p.ensures.same, p.entries.inside _ p.e_lt_count.0), omega arith, p.e_lt_count.1) })
 
 pub returns-then-add_axis : goal.returns-then-add_axis
 returns-then-add_axis c =
@@ -22,10 +22,10 @@ returns-then-add_axis c =
 
 pub add_axis-requires-2 : goal.add_axis-requires-2
 add_axis-requires-2 c =
-    let p = c.requires in (record { readable = p.0; p_lt_n = (
-        omega (arith, c.wide-p.ensures.same, p.1.0.inside _ p.1.1.0),
+    let p = c.requires in (record { readable = p.readable; p_lt_n = (
+        omega (arith, c.wide-p.ensures.same, p.entries.inside _ p.e_lt_count.0),
         omega arith,
-        omega (arith, p.1.1.1, c.add_axis.auto.1.1.1.1.1.1.0),
+        omega (arith, p.e_lt_count.1, c.add_axis.auto.out),
       ) })
 
 pub returns : goal.returns

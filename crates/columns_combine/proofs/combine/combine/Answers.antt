@@ -7,7 +7,7 @@ use Rattle.columns_combine.proofs.combine.combine.Goals as goal
 pub add_all-requires : goal.add_all-requires
 add_all-requires c =
     let p = c.requires in
-    (record { readable = p.readable; entries = p.entered; n_in_bounds = omega (arith, p.room, c.clear.auto.1.0) })
+    (record { readable = p.readable; entries = p.entered; n_in_bounds = omega (arith, p.room, c.clear.auto.x) })
 
 pub returns-then-add_all : goal.returns-then-add_all
 returns-then-add_all c =

@@ -11,24 +11,24 @@ clear-requires c = c.requires.solvable.iterable.b
 pub load-requires : goal.load-requires
 load-requires c =
     let p = c.requires in
-    (record { entries = p.entered; n_in_bounds = omega (arith, p.solvable.iterable.b, c.clear.auto.1.0) })
+    (record { entries = p.entered; n_in_bounds = omega (arith, p.solvable.iterable.b, c.clear.auto.x) })
 
 pub route-how-requires : goal.route-how-requires
 route-how-requires c =
-    ready_for _ _ (c.load.auto.1.1.1.1.1.0 ∙ c.clear.auto.1.0) c.requires.solvable
+    ready_for _ _ (c.load.auto.rhs ∙ c.clear.auto.x) c.requires.solvable
 
 pub raw_gain-raw-requires : goal.raw_gain-raw-requires
 raw_gain-raw-requires c =
     let p = c.requires in
-    (record { entries = p.entered; n_in_bounds = omega (arith, p.solvable.iterable.x, c.route-how.auto.1.1.1.1.1.1.1.1.1.1.1.1.1.1.1.1.0) })
+    (record { entries = p.entered; n_in_bounds = omega (arith, p.solvable.iterable.x, c.route-how.auto.x) })
 
 pub clear-requires-2 : goal.clear-requires-2
 clear-requires-2 c =
     omega (
       arith,
       c.requires.solvable.iterable.b,
-      c.clear.kept.1.0,
-      c.load.kept.1.1.1.1.1.0,
+      c.clear.kept.x,
+      c.load.kept.rhs,
     )
 
 pub returns : goal.returns
