@@ -2,7 +2,6 @@ use Rattle.law.specs.Refusal.{skips, applies}
 use Rattle.law.specs.Truth.{refused, passed}
 use Rattle.plan_fits.specs.Given.{laid}
 use Rattle.step_routes.specs.Dense.{plan_held}
-use borrow.Author.Rules.{rules}
 use Rattle.step_routes.proofs.dense.plan_held.Goals as goal
 
 pub returns-then-not-dense : goal.returns-then-not-dense

@@ -1,6 +1,4 @@
-use mathlib.Core.Path.{◌∙◌}
 use Rattle.gradient_doors.specs.Solving.{ready_with}
-use borrow.Author.Rules.{rules}
 use Rattle.step_routes.proofs.front.solve_from_zero.Goals as goal
 
 pub solve-requires : goal.solve-requires

@@ -1,6 +1,5 @@
 use native.Mathlib.Omega.{arith}
 use Rattle.step_routes.specs.Dense.{sweeps, spares}
-use borrow.Author.Rules.{rules}
 use Rattle.step_routes.proofs.front.sweep.Goals as goal
 
 pub clear-requires : goal.clear-requires

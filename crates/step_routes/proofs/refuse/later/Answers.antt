@@ -1,7 +1,6 @@
 use Rattle.law.specs.Refusal.{goes_on, stops, ends}
 use Rattle.law.specs.Truth.{refused, passed}
 use Rattle.step_routes.specs.Dense.{ends_early, by_settings}
-use borrow.Author.Rules.{rules}
 use Rattle.step_routes.proofs.refuse.later.Goals as goal
 
 pub returns-then-no-ne0 : goal.returns-then-no-ne0

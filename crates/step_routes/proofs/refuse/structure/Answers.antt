@@ -2,7 +2,6 @@ use Rattle.law.specs.Refusal.{goes_on, stops, ends}
 use Rattle.law.specs.Truth.{refused, passed}
 use Rattle.matrix_shape.specs.Given.{held, pattern}
 use Rattle.step_routes.specs.Dense.{structural}
-use borrow.Author.Rules.{rules}
 use Rattle.step_routes.proofs.refuse.structure.Goals as goal
 
 pub pattern_formed-requires : goal.pattern_formed-requires
