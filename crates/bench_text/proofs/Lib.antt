@@ -1,3 +1,4 @@
 mod Passes
 mod Language
 mod Readings
+mod Filling

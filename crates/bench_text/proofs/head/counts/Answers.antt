@@ -1,4 +1,3 @@
-use borrow.Author.Rules.{rules}
 use borrow.Author.Tests.{eq-eqb, ne_eqb}
 use Rattle.bench_text.specs.Head.{counted_of}
 use Rattle.bench_text.proofs.head.counts.Goals as goal

@@ -1,6 +1,5 @@
 use mathlib.Core.Path.{◌∙◌}
 use Rattle.bench_text.proofs.Passes.{head_said, head_long}
-use borrow.Author.Rules.{rules}
 use Rattle.bench_text.proofs.head.head_of.Goals as goal
 
 pub returns-then-text-gt-BYTES : goal.returns-then-text-gt-BYTES

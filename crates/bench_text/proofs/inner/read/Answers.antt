@@ -1,7 +1,6 @@
 use mathlib.Core.Path.{sym, ◌∙◌}
 use Rattle.bench_text.specs.Nine.{not_described, is_described}
 use Rattle.bench_text.proofs.Passes.{head_known, head_none}
-use borrow.Author.Rules.{rules}
 use Rattle.bench_text.proofs.inner.read.Goals as goal
 
 pub taken-requires : goal.taken-requires

@@ -4,7 +4,6 @@ use lib.ListN.{length-take}
 use Rattle.law.specs.Promise.{refuses, accepts}
 use Rattle.bench_text.specs.Reading.{reading}
 use Rattle.bench_text.proofs.Passes.{short, its_tests, enough_room, worked}
-use borrow.Author.Rules.{rules}
 use Rattle.bench_text.proofs.inner.taken.Goals as goal
 
 pub returns-then-no-ne0 : goal.returns-then-no-ne0
