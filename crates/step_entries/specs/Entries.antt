@@ -1,5 +1,5 @@
 -- THE ENTRIES OF A RESPONSE: particles and their gradients. Those at pinned particles are skipped; repeated particles add up, in the order of the entries.
-use Rattle.std.specs.Prelude.{ℕ, ◌+◌, ◌*◌, ◌≤◌, ◌<◌, ◌≡◌, Bool, cond, ltb, eqb, length, Float}
+use Rattle.std.specs.Prelude.{ℕ, ◌*◌, ◌≤◌, ◌<◌, ◌≡◌, Bool, cond, ltb, eqb, length, Float}
 use Rattle.std.proofs.Math.Path.{refl}
 use Rattle.std.proofs.Common.{ap, ◌∙◌, arith, drop_at, ltb-true}
 use Rattle.std.proofs.Math.Bool.{true, false}

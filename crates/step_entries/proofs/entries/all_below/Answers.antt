@@ -1,9 +1,6 @@
-use mathlib.Core.Path.{◌≡◌}
-use Prim.Native.Nat.{◌-◌, ◌≤◌, zero-le}
-use lib.Dec.{ltb}
+use Prim.Native.Nat.{zero-le}
 use Rattle.law.specs.Loop.{over_none, over_turn, over_done}
 use Rattle.law.specs.Every.{every}
-use Rattle.matrix_shape.specs.Rows.{at}
 use Rattle.step_entries.specs.Entries.{below}
 use borrow.Author.Rules.{rules}
 use Rattle.step_entries.proofs.entries.all_below.Goals as goal

@@ -1,9 +1,8 @@
-use mathlib.Core.Path.{◌≡◌}
-use Prim.Native.Nat.{◌-◌, ◌≤◌, zero-le}
+use Prim.Native.Nat.{zero-le}
 use native.Mathlib.Omega.{arith}
 use Rattle.law.specs.Loop.{over_none, over_turn, over_done}
 use Rattle.law.specs.Every.{some}
-use Rattle.step_entries.specs.Entries.{free, any_free}
+use Rattle.step_entries.specs.Entries.{any_free}
 use borrow.Author.Rules.{rules}
 use Rattle.step_entries.proofs.entries.any_free.Goals as goal
 

@@ -1,10 +1,7 @@
 use mathlib.Core.Path.{◌≡◌}
-use Prim.Native.Nat.{◌-◌, ◌≤◌, zero-le}
-use native.Mathlib.Omega.{arith}
-use Rattle.law.specs.Loop.{over_none, over_turn, over_done}
+use Prim.Native.Nat.{◌-◌, ◌≤◌}
 use Rattle.law.specs.Every.{some}
-use Rattle.step_entries.specs.Entries.{free, any_free}
-use borrow.Author.Rules.{rules}
+use Rattle.step_entries.specs.Entries.{free}
 use Rattle.step_entries.proofs.entries.any_free.Given as goal
 
 abbrev pub invariant-loop-e : goal.invariant-loop-e

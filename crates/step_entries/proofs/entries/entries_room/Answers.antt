@@ -1,7 +1,6 @@
 use mathlib.Core.Path.{refl}
 use Rattle.law.specs.Room.{enough}
 use Rattle.step_entries.specs.Entries.{entries_room}
-use borrow.Author.Rules.{rules}
 use Rattle.step_entries.proofs.entries.entries_room.Goals as goal
 
 pub returns : goal.returns

@@ -1,7 +1,6 @@
 use native.Mathlib.Omega.{arith}
 use Rattle.law.specs.Truth.{refused, passed}
 use Rattle.step_entries.specs.Entries.{gains, adds_none}
-use borrow.Author.Rules.{rules}
 use Rattle.step_entries.proofs.entries.gain_one.Goals as goal
 
 pub is_free-requires : goal.is_free-requires

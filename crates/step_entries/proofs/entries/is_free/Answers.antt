@@ -1,6 +1,5 @@
 use native.Mathlib.Omega.{arith}
 use Rattle.step_entries.specs.Entries.{free}
-use borrow.Author.Rules.{rules}
 use Rattle.step_entries.proofs.entries.is_free.Goals as goal
 
 pub bounds-pinned-p : goal.bounds-pinned-p

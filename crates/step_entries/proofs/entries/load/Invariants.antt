@@ -1,10 +1,8 @@
-use mathlib.Core.Path.{◌≡◌, refl, ◌∙◌}
-use Prim.Native.Nat.{◌-◌, ◌≤◌, zero-le}
-use native.Mathlib.Omega.{arith}
+use mathlib.Core.Path.{◌≡◌}
+use Prim.Native.Nat.{◌-◌, ◌≤◌}
 use lib.ListN.{length}
-use Rattle.law.specs.Loop.{over, over_none, over_turn, over_done}
-use Rattle.step_entries.specs.Entries.{load_step, loaded}
-use borrow.Author.Rules.{rules}
+use Rattle.law.specs.Loop.{over}
+use Rattle.step_entries.specs.Entries.{load_step}
 use Rattle.step_entries.proofs.entries.load.Given as goal
 
 abbrev pub invariant-loop-e : goal.invariant-loop-e

@@ -1,7 +1,6 @@
 use mathlib.Core.Path.{sym, ◌∙◌}
 use native.Mathlib.Omega.{arith}
 use Rattle.step_entries.specs.Entries.{loads, skips}
-use borrow.Author.Rules.{rules}
 use Rattle.step_entries.proofs.entries.load_one.Goals as goal
 
 pub is_free-requires : goal.is_free-requires

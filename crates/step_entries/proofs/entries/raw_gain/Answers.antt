@@ -1,8 +1,6 @@
-use mathlib.Core.Path.{◌≡◌}
-use Prim.Native.Nat.{◌-◌, ◌≤◌, zero-le}
-use Rattle.law.specs.Loop.{over, over_none, over_turn, over_done}
-use Rattle.plane.specs.Plane.{zero32}
-use Rattle.step_entries.specs.Entries.{gain_step, raw_gain}
+use Prim.Native.Nat.{zero-le}
+use Rattle.law.specs.Loop.{over_none, over_turn, over_done}
+use Rattle.step_entries.specs.Entries.{raw_gain}
 use borrow.Author.Rules.{rules}
 use Rattle.step_entries.proofs.entries.raw_gain.Goals as goal
 

@@ -1,9 +1,8 @@
 use mathlib.Core.Path.{◌≡◌}
-use Prim.Native.Nat.{◌-◌, ◌≤◌, zero-le}
-use Rattle.law.specs.Loop.{over, over_none, over_turn, over_done}
+use Prim.Native.Nat.{◌-◌, ◌≤◌}
+use Rattle.law.specs.Loop.{over}
 use Rattle.plane.specs.Plane.{zero32}
-use Rattle.step_entries.specs.Entries.{gain_step, raw_gain}
-use borrow.Author.Rules.{rules}
+use Rattle.step_entries.specs.Entries.{gain_step}
 use Rattle.step_entries.proofs.entries.raw_gain.Given as goal
 
 abbrev pub invariant-loop-e : goal.invariant-loop-e
