@@ -1,6 +1,5 @@
-use mathlib.Core.Path.{◌≡◌}
+use mathlib.Core.Path.{sym, ◌∙◌}
 use borrow.Author.Rules.{rules}
-use Rattle.law.specs.Truth.{passed, refused}
 use Rattle.matrix_shape.specs.Rows.{at}
 use Rattle.plan_fits.specs.Fits.{plan_rules_ok, fits_ok, planned_is}
 use Rattle.plan_fits.specs.Lists.{plan_of, placed_of}
@@ -9,14 +8,14 @@ use Rattle.plan_inside.proofs.inside.fits.Goals as goal
 
 pub returns-then-not-plan_ok : goal.returns-then-not-plan_ok
 unfolding fits_ok
-returns-then-not-plan_ok c = rw (refused _ _ c.plan_ok.ensures c.if-not-plan_ok.true-raw)
+returns-then-not-plan_ok c = rw (sym c.plan_ok.ensures ∙ c.if-not-plan_ok.true)
 
 pub rows_ok-requires : goal.rows_ok-requires
 rows_ok-requires c =
-    (c.requires.pattern, placed_of _ _ _ _ _ (plan_of _ _ _ _ _ c.requires.laid (passed _ _ c.plan_ok.ensures c.if-not-plan_ok.false-raw)))
+    (c.requires.pattern, placed_of _ _ _ _ _ (plan_of _ _ _ _ _ c.requires.laid (sym c.plan_ok.ensures ∙ c.if-not-plan_ok.false)))
 
 pub returns : goal.returns
 unfolding fits_ok
 returns c =
-    let shown = passed _ _ c.plan_ok.ensures c.if-not-plan_ok.false-raw in
+    let shown = sym c.plan_ok.ensures ∙ c.if-not-plan_ok.false in
     rw (shown, c.rows_ok.ensures) (half_is _ _ _ _ _ c.requires.pattern.formed _ _ _ _ (planned_is _ _ _ _ _ shown))
