@@ -1,6 +1,6 @@
 use borrow.Author.Tests.{le-leb, lt-leb}
 use Rattle.law.specs.Refusal.{goes_on, stops, ends}
-use Rattle.law.specs.Truth.{refused, passed}
+use mathlib.Core.Path.{sym, ◌∙◌}
 use Rattle.matrix_shape.specs.Given.{held}
 use Rattle.plan_doors.specs.Planning.{early}
 use borrow.Author.Rules.{rules}
@@ -14,32 +14,32 @@ pub returns-then-not-pattern_room : goal.returns-then-not-pattern_room
 unfolding early
 returns-then-not-pattern_room c =
     goes_on _ _ _ _ (le-leb _ _ c.if-n-gt-PARTICLES.false)
-    (stops _ _ _ (refused _ _ c.pattern_room.ensures c.if-not-pattern_room.true-raw))
+    (stops _ _ _ (sym c.pattern_room.ensures ∙ c.if-not-pattern_room.true))
 
 pub returns-then-not-planning_room : goal.returns-then-not-planning_room
 unfolding early
 returns-then-not-planning_room c =
     goes_on _ _ _ _ (le-leb _ _ c.if-n-gt-PARTICLES.false)
-    (goes_on _ _ _ _ (passed _ _ c.pattern_room.ensures c.if-not-pattern_room.false-raw)
-    (stops _ _ _ (refused _ _ c.planning_room.ensures c.if-not-planning_room.true-raw)))
+    (goes_on _ _ _ _ (sym c.pattern_room.ensures ∙ c.if-not-pattern_room.false)
+    (stops _ _ _ (sym c.planning_room.ensures ∙ c.if-not-planning_room.true)))
 
 pub pattern_formed-requires : goal.pattern_formed-requires
 pattern_formed-requires c =
-    (c.if-n-gt-PARTICLES.false, held _ _ _ _ (passed _ _ c.pattern_room.ensures c.if-not-pattern_room.false-raw))
+    (c.if-n-gt-PARTICLES.false, held _ _ _ _ (sym c.pattern_room.ensures ∙ c.if-not-pattern_room.false))
 
 pub returns-then-not-pattern_formed : goal.returns-then-not-pattern_formed
 unfolding early
 returns-then-not-pattern_formed c =
     goes_on _ _ _ _ (le-leb _ _ c.if-n-gt-PARTICLES.false)
-    (goes_on _ _ _ _ (passed _ _ c.pattern_room.ensures c.if-not-pattern_room.false-raw)
-    (goes_on _ _ _ _ (passed _ _ c.planning_room.ensures c.if-not-planning_room.false-raw)
-    (stops _ _ _ (refused _ _ c.pattern_formed.ensures c.if-not-pattern_formed.true-raw))))
+    (goes_on _ _ _ _ (sym c.pattern_room.ensures ∙ c.if-not-pattern_room.false)
+    (goes_on _ _ _ _ (sym c.planning_room.ensures ∙ c.if-not-planning_room.false)
+    (stops _ _ _ (sym c.pattern_formed.ensures ∙ c.if-not-pattern_formed.true))))
 
 pub returns : goal.returns
 unfolding early
 returns c =
     goes_on _ _ _ _ (le-leb _ _ c.if-n-gt-PARTICLES.false)
-    (goes_on _ _ _ _ (passed _ _ c.pattern_room.ensures c.if-not-pattern_room.false-raw)
-    (goes_on _ _ _ _ (passed _ _ c.planning_room.ensures c.if-not-planning_room.false-raw)
-    (goes_on _ _ _ _ (passed _ _ c.pattern_formed.ensures c.if-not-pattern_formed.false-raw)
+    (goes_on _ _ _ _ (sym c.pattern_room.ensures ∙ c.if-not-pattern_room.false)
+    (goes_on _ _ _ _ (sym c.planning_room.ensures ∙ c.if-not-planning_room.false)
+    (goes_on _ _ _ _ (sym c.pattern_formed.ensures ∙ c.if-not-pattern_formed.false)
     ends)))
