@@ -4,7 +4,7 @@ use Prim.Native.Nat.{ℕ}
 use mathlib.Core.Path.{◌≡◌, refl, ap}
 use mathlib.Core.Bool.{Bool, true, false}
 use mathlib.Core.List.{List, [], ◌∷◌}
-use lib.Ieee.{Float, nan, inf, binary32, of_bits, add, sub, mul, div, neg, lt, le, eq, ne}
+use lib.Ieee.{Float, nan, binary32, of_bits, add, sub, mul, div, neg, lt, le, eq, ne}
 use Rattle.law.specs.Loop.{fold, over}
 use Rattle.law.specs.Every.{every, some}
 use Rattle.law.specs.Gather.{gather}

@@ -1,6 +1,5 @@
 use borrow.Author.Tests.{le-leb, lt-leb}
 use Rattle.step_solve.specs.Marking.{factored, unfactored}
-use borrow.Author.Rules.{rules}
 use Rattle.step_solve.proofs.front.mark.Goals as goal
 
 pub factorize-how-requires : goal.factorize-how-requires

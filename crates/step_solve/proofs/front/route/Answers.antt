@@ -1,6 +1,5 @@
 use Rattle.law.specs.Truth.{both}
 use Rattle.step_solve.specs.Stepping.{directed, iterated}
-use borrow.Author.Rules.{rules}
 use Rattle.step_solve.proofs.front.route.Goals as goal
 
 pub solve-requires : goal.solve-requires

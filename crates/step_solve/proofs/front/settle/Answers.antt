@@ -1,6 +1,5 @@
 use mathlib.Core.Path.{refl}
 use Rattle.step_solve.specs.Marking.{renewed}
-use borrow.Author.Rules.{rules}
 use Rattle.step_solve.proofs.front.settle.Goals as goal
 
 pub returns-in-Refused : goal.returns-in-Refused

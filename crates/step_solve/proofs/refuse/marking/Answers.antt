@@ -4,7 +4,6 @@ use Rattle.law.specs.Truth.{refused, passed}
 use Rattle.matrix_shape.specs.Given.{held}
 use Rattle.step_routes.specs.Dense.{when_laid}
 use Rattle.step_solve.specs.Marking.{refusals}
-use borrow.Author.Rules.{rules}
 use Rattle.step_solve.proofs.refuse.marking.Goals as goal
 
 pub returns-then-n-gt-PARTICLES : goal.returns-then-n-gt-PARTICLES

@@ -3,7 +3,6 @@ use Rattle.law.specs.Refusal.{goes_on, stops}
 use Rattle.law.specs.Truth.{refused, passed}
 use Rattle.step_routes.specs.Dense.{roomy}
 use Rattle.step_solve.specs.Stepping.{refusals}
-use borrow.Author.Rules.{rules}
 use Rattle.step_solve.proofs.refuse.stepping.Goals as goal
 
 pub returns-then-n-gt-PARTICLES : goal.returns-then-n-gt-PARTICLES
