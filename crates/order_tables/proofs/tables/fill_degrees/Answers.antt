@@ -1,11 +1,10 @@
-use Prim.Native.Nat.{ℕ, ◌+◌, ◌-◌, ◌≤◌}
+use Prim.Native.Nat.{ℕ, ◌+◌, ◌-◌}
 use native.Mathlib.Numerals.{add-one}
 use native.Mathlib.Omega.{arith}
 use mathlib.Core.List.{append-nil, List, ◌++◌}
 use mathlib.Core.Path.{◌≡◌, sym, ap, ◌∙◌}
 use lib.Seq.{drop-length}
 use lib.ListN.{length, get_or, drop, set, length-set}
-use borrow.Author.Rules.{rules}
 use Rattle.order_definition.specs.Searches.{degrees_to}
 use Rattle.order_definition.proofs.Degrees.{degrees_store}
 use Rattle.order_tables.proofs.tables.fill_degrees.Goals as goal

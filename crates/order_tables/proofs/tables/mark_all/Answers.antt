@@ -1,11 +1,10 @@
-use Prim.Native.Nat.{ℕ, ◌-◌, ◌≤◌}
+use Prim.Native.Nat.{ℕ}
 use native.Mathlib.Numerals.{add-one}
 use native.Mathlib.Omega.{arith}
-use mathlib.Core.Path.{◌≡◌, sym, ap, ◌∙◌}
+use mathlib.Core.Path.{sym, ap, ◌∙◌}
 use mathlib.Core.List.{List}
 use lib.Seq.{take_all}
-use lib.ListN.{length, take, set, length-set}
-use borrow.Author.Rules.{rules}
+use lib.ListN.{take, set, length-set}
 use Rattle.order_definition.specs.Marks.{mark_all}
 use Rattle.order_definition.proofs.Filling.{mark_all_more}
 use Rattle.order_tables.proofs.tables.mark_all.Goals as goal

@@ -1,11 +1,10 @@
-use Prim.Native.Nat.{ℕ, ◌-◌, ◌≤◌}
+use Prim.Native.Nat.{ℕ, ◌-◌}
 use native.Mathlib.Numerals.{add-one}
 use native.Mathlib.Omega.{arith}
 use mathlib.Core.List.{append-nil, reverse, List, ◌++◌}
 use mathlib.Core.Path.{◌≡◌, sym, ap, ◌∙◌}
 use lib.Seq.{drop-length, take_all}
 use lib.ListN.{length-reverse, length, get_or, take, drop, set, length-set}
-use borrow.Author.Rules.{rules}
 use Rattle.order_definition.proofs.Degrees.{reverse_store}
 use Rattle.order_tables.proofs.tables.reverse_into.Goals as goal
 

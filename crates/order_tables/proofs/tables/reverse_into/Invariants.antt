@@ -1,12 +1,7 @@
-use Prim.Native.Nat.{ℕ, ◌-◌, ◌≤◌}
-use native.Mathlib.Numerals.{add-one}
-use native.Mathlib.Omega.{arith}
-use mathlib.Core.List.{append-nil, reverse, List, ◌++◌}
-use mathlib.Core.Path.{◌≡◌, sym, ap, ◌∙◌}
-use lib.Seq.{drop-length, take_all}
-use lib.ListN.{length-reverse, length, get_or, take, drop, set, length-set}
-use borrow.Author.Rules.{rules}
-use Rattle.order_definition.proofs.Degrees.{reverse_store}
+use Prim.Native.Nat.{◌-◌, ◌≤◌}
+use mathlib.Core.List.{reverse, ◌++◌}
+use mathlib.Core.Path.{◌≡◌}
+use lib.ListN.{length, take, drop}
 use Rattle.order_tables.proofs.tables.reverse_into.Given as goal
 
 abbrev pub invariant-loop-i : goal.invariant-loop-i
