@@ -11,8 +11,8 @@ use Rattle.matrix_building.specs.declared.Built.{Built}
 use Rattle.matrix_building.specs.declared.Built.TheVariants as built
 use Rattle.matrix_building.specs.Building as building
 use Rattle.matrix_building.specs.FromPairs as frompairs
-use Rattle.plan_make.specs.Plan.{Plan, four}
-use Rattle.plan_make.specs.Parts.{Work, five}
+use Rattle.plan_make.specs.Plan.{four}
+use Rattle.plan_make.specs.Parts.{five}
 use Rattle.plan_doors.specs.Planning as planning
 use Rattle.plan_doors.specs.declared.Planned.TheVariants as planned
 use Rattle.factor_doors.specs.declared.Factored.TheVariants as factored
