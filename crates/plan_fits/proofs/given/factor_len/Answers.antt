@@ -1,5 +1,4 @@
 use Rattle.plan_fits.specs.Given.{factor_length}
-use borrow.Author.Rules.{rules}
 use Rattle.plan_fits.proofs.given.factor_len.Goals as goal
 
 pub returns : goal.returns

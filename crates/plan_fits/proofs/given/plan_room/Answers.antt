@@ -1,7 +1,6 @@
 use mathlib.Core.Path.{refl}
 use Rattle.law.specs.Room.{enough}
 use Rattle.plan_fits.specs.Given.{plan_room}
-use borrow.Author.Rules.{rules}
 use Rattle.plan_fits.proofs.given.plan_room.Goals as goal
 
 pub returns : goal.returns
