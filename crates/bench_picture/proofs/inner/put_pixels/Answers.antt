@@ -1,10 +1,8 @@
-use Prim.Native.Nat.{◌-◌, ◌≤◌}
-use mathlib.Core.Path.{◌≡◌, refl, ap, ◌∙◌}
+use mathlib.Core.Path.{refl, ap, ◌∙◌}
 use native.Mathlib.Omega.{arith}
-use lib.ListN.{length, length-set}
-use Rattle.law.specs.Gather.{table}
-use Rattle.law.specs.Store.{written, table_turn}
-use Rattle.bench_picture.specs.Pixels.{scene, pixel, digit}
+use lib.ListN.{length-set}
+use Rattle.law.specs.Store.{table_turn}
+use Rattle.bench_picture.specs.Pixels.{digit}
 use Rattle.bench_picture.proofs.Lines.{none_yet, all_written}
 use borrow.Author.Rules.{rules}
 use Rattle.bench_picture.proofs.inner.put_pixels.Goals as goal

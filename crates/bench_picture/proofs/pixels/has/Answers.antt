@@ -3,7 +3,6 @@ use native.Mathlib.Omega.{arith}
 use Rattle.law.specs.Find.{find_tells}
 use Rattle.law.specs.Limit.{absent}
 use Rattle.matrix_shape.specs.Formed.{stored}
-use borrow.Author.Rules.{rules}
 use Rattle.bench_picture.proofs.pixels.has.Goals as goal
 
 pub slot_of-requires : goal.slot_of-requires

@@ -1,6 +1,5 @@
 use mathlib.Core.Path.{refl}
 use Rattle.bench_picture.specs.Pixels.{hatched}
-use borrow.Author.Rules.{rules}
 use Rattle.bench_picture.proofs.pixels.hatch.Goals as goal
 
 pub returns : goal.returns

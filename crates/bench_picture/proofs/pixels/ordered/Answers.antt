@@ -1,6 +1,5 @@
 use native.Mathlib.Omega.{arith}
 use Rattle.bench_picture.specs.Pixels.{moved, after}
-use borrow.Author.Rules.{rules}
 use Rattle.bench_picture.proofs.pixels.ordered.Goals as goal
 
 pub has-stands-requires : goal.has-stands-requires

@@ -2,7 +2,6 @@ use native.Mathlib.Omega.{arith}
 use mathlib.Core.Path.{◌∙◌, sym}
 use Rattle.bench_picture.specs.Pixels.{before}
 use Rattle.bench_picture.specs.Panels.{left_panel, between, right_panel}
-use borrow.Author.Rules.{rules}
 use Rattle.bench_picture.proofs.pixels.pixel.Goals as goal
 
 pub has-requires : goal.has-requires
