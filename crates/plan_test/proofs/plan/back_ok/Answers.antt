@@ -1,6 +1,5 @@
 use borrow.Author.Tests.{lt-ltb, le-ltb}
 use Rattle.plan_fits.specs.Fits.{back_ok}
-use borrow.Author.Rules.{rules}
 use Rattle.plan_test.proofs.plan.back_ok.Goals as goal
 
 pub returns-then-n-q : goal.returns-then-n-q

@@ -1,10 +1,8 @@
 use mathlib.Core.Path.{◌≡◌}
-use Prim.Native.Nat.{◌-◌, ◌≤◌, zero-le}
-use borrow.Author.Rules.{rules}
-use Rattle.law.specs.Loop.{over_none, over_turn, over_done}
+use Prim.Native.Nat.{◌-◌, ◌≤◌}
 use Rattle.law.specs.Every.{every}
 use Rattle.matrix_shape.specs.Rows.{at}
-use Rattle.plan_fits.specs.Fits.{twins_ok, firsts_ok}
+use Rattle.plan_fits.specs.Fits.{twins_ok}
 use Rattle.plan_test.proofs.plan.firsts_ok.Given as goal
 
 abbrev pub invariant-loop-i : goal.invariant-loop-i

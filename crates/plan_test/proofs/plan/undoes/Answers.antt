@@ -1,10 +1,8 @@
-use mathlib.Core.Path.{◌≡◌}
-use Prim.Native.Nat.{◌-◌, ◌≤◌, zero-le}
+use Prim.Native.Nat.{zero-le}
 use borrow.Author.Rules.{rules}
 use Rattle.law.specs.Loop.{over_none, over_turn, over_done}
 use Rattle.law.specs.Every.{every}
-use Rattle.matrix_shape.specs.Rows.{at}
-use Rattle.plan_fits.specs.Fits.{back_ok, undo_ok}
+use Rattle.plan_fits.specs.Fits.{undo_ok}
 use Rattle.plan_test.proofs.plan.undoes.Goals as goal
 
 pub loop-i-init : goal.loop-i-init
