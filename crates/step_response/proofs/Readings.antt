@@ -1,10 +1,9 @@
 -- Readings of the response, computed: one particle and the identity; lists with a place too many and NaN in all that may be written. Assumes nothing.
 use Prim.Native.Nat.{ℕ}
 use mathlib.Core.Path.{◌≡◌, refl, ap}
-use mathlib.Core.Bool.{Bool, true, false}
+use mathlib.Core.Bool.{true, false}
 use mathlib.Core.List.{List, [], ◌∷◌}
 use lib.Ieee.{Float, nan, inf, binary32, of_bits, add, sub, mul, div, neg, lt, le, eq, ne}
-use lib.ListN.{replicate}
 use Rattle.law.specs.Loop.{fold, over}
 use Rattle.law.specs.Every.{every, some}
 use Rattle.law.specs.Gather.{gather}

@@ -2,7 +2,6 @@ use mathlib.Core.Path.{◌∙◌}
 use native.Mathlib.Omega.{arith}
 use Rattle.step_solve.specs.Stepping.{ready_for}
 use Rattle.step_response.specs.Responding.{whole_is, made_of}
-use borrow.Author.Rules.{rules}
 use Rattle.step_response.proofs.front.solve.Goals as goal
 
 pub clear-requires : goal.clear-requires
@@ -27,8 +26,8 @@ clear-requires-2 c =
     omega (
       arith,
       c.requires.solvable.iterable.b,
-      c.clear.kept.x,
-      c.load.kept.rhs,
+      c.clear.auto.x,
+      c.load.auto.rhs,
     )
 
 pub returns : goal.returns

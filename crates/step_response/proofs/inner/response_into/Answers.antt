@@ -1,7 +1,6 @@
-use mathlib.Core.Path.{sym, ◌∙◌, refl}
+use mathlib.Core.Path.{sym, ◌∙◌}
 use Rattle.law.specs.Promise.{refuses, accepts}
 use Rattle.step_response.specs.Responding.{door, ready}
-use borrow.Author.Rules.{rules}
 use Rattle.step_response.proofs.inner.response_into.Goals as goal
 
 pub returns-then-no-ne0 : goal.returns-then-no-ne0

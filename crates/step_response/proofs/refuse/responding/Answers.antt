@@ -4,7 +4,6 @@ use Rattle.law.specs.Truth.{refused, passed}
 use Rattle.step_routes.specs.Dense.{roomy}
 use Rattle.step_entries.specs.Entries.{has_names}
 use Rattle.step_response.specs.Responding.{refusals}
-use borrow.Author.Rules.{rules}
 use Rattle.step_response.proofs.refuse.responding.Goals as goal
 
 pub returns-then-n-gt-PARTICLES : goal.returns-then-n-gt-PARTICLES
