@@ -1,7 +1,5 @@
 use mathlib.Core.Path.{sym, ◌∙◌}
-use borrow.Author.Rules.{rules}
-use Rattle.matrix_shape.specs.Rows.{at}
-use Rattle.plan_fits.specs.Fits.{plan_rules_ok, fits_ok, planned_is}
+use Rattle.plan_fits.specs.Fits.{fits_ok, planned_is}
 use Rattle.plan_fits.specs.Lists.{plan_of, placed_of}
 use Rattle.plan_inside.specs.Half.{half_is}
 use Rattle.plan_inside.proofs.inside.fits.Goals as goal

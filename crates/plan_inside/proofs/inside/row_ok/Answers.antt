@@ -1,6 +1,5 @@
 use native.Mathlib.Omega.{arith}
 use Rattle.plan_inside.specs.Half.{half_ok, lefts_of}
-use borrow.Author.Rules.{rules}
 use Rattle.plan_inside.proofs.inside.row_ok.Goals as goal
 
 pub bounds-first-i : goal.bounds-first-i

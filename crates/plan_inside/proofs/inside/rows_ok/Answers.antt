@@ -1,10 +1,7 @@
-use mathlib.Core.Path.{◌≡◌}
-use Prim.Native.Nat.{◌-◌, ◌≤◌, zero-le}
+use Prim.Native.Nat.{zero-le}
 use borrow.Author.Rules.{rules}
 use Rattle.law.specs.Loop.{over_none, over_turn, over_done}
 use Rattle.law.specs.Every.{every}
-use Rattle.matrix_shape.specs.Rows.{at}
-use Rattle.plan_inside.specs.Half.{half_ok}
 use Rattle.plan_inside.proofs.inside.rows_ok.Goals as goal
 
 pub loop-r-init : goal.loop-r-init
