@@ -1,5 +1,5 @@
 -- Marks in a lent list: what the code keeps beside the definition's own lists.
-use Rattle.std.specs.Prelude.{ℕ, ◌+◌, Bool, not, List, [], ◌∷◌, ◌++◌, ◌≡◌, eqb, length, get_or, set, take, drop, replicate}
+use Rattle.std.specs.Prelude.{ℕ, ◌+◌, Bool, List, [], ◌∷◌, ◌++◌, ◌≡◌, eqb, length, get_or, set, take, drop, replicate}
 use Rattle.order_definition.specs.Order.{passing, neighbours, sorted}
 use Rattle.order_definition.specs.Keys.{key_of}
 
