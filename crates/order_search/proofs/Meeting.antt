@@ -8,7 +8,7 @@ use mathlib.Core.List.{List, [], ◌∷◌, ◌++◌}
 use lib.ListN.{length, get_or, take, set, length-append}
 use lib.Seq.{slice, slice_empty, take-suc-set}
 use lib.Dec.{eqb}
-use Rattle.order_definition.specs.Order.{passing, cons_if, row, neighbours, Breadth, met, meet, meet_all}
+use Rattle.order_definition.specs.Order.{passing, cons_if, neighbours, Breadth, met, meet, meet_all}
 use Rattle.order_definition.specs.Marks.{unmarked}
 use Rattle.order_definition.specs.Searches.{Searched, meet_row}
 use Rattle.order_definition.proofs.Filling.{slice_snoc, passing_append}

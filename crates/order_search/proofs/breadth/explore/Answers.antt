@@ -1,9 +1,8 @@
-use Prim.Native.Nat.{ℕ, suc, ◌+◌, ◌-◌, ◌≤◌}
+use Prim.Native.Nat.{ℕ, suc, ◌+◌}
 use native.Mathlib.Numerals.{add-one}
 use native.Mathlib.Omega.{arith}
-use mathlib.Core.Path.{◌≡◌, refl, sym, ap, ◌∙◌, subst}
+use mathlib.Core.Path.{refl, sym, ap, ◌∙◌, subst}
 use lib.ListN.{replicate, length, get_or, length-set}
-use borrow.Author.Rules.{rules}
 use Rattle.order_definition.specs.Order.{Breadth, reach, neighbours}
 use Rattle.order_definition.specs.Marks.{unmarked}
 use Rattle.order_definition.specs.Searches.{Searched}

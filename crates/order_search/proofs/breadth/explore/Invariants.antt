@@ -1,13 +1,9 @@
-use Prim.Native.Nat.{ℕ, suc, ◌+◌, ◌-◌, ◌≤◌}
-use native.Mathlib.Numerals.{add-one}
-use native.Mathlib.Omega.{arith}
-use mathlib.Core.Path.{◌≡◌, refl, sym, ap, ◌∙◌, subst}
-use lib.ListN.{replicate, length, get_or, length-set}
-use borrow.Author.Rules.{rules}
-use Rattle.order_definition.specs.Order.{Breadth, reach, neighbours}
+use Prim.Native.Nat.{◌-◌, ◌≤◌}
+use mathlib.Core.Path.{◌≡◌}
+use lib.ListN.{length}
+use Rattle.order_definition.specs.Order.{reach, neighbours}
 use Rattle.order_definition.specs.Marks.{unmarked}
 use Rattle.order_definition.specs.Searches.{Searched}
-use Rattle.order_search.proofs.Exploring.{rows_at, cols_below, queue_short, v_below, level_small, row_step, all_done, begun}
 use Rattle.order_search.proofs.breadth.explore.Given as goal
 
 abbrev pub invariant-loop-head : goal.invariant-loop-head

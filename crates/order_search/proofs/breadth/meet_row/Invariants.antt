@@ -1,15 +1,8 @@
-use Prim.Native.Nat.{ℕ, suc, ◌+◌, ◌-◌, ◌≤◌, ◌<◌}
-use native.Mathlib.Numerals.{add-one}
-use native.Mathlib.Omega.{arith}
-use mathlib.Core.Logic.{⊎_elim}
-use mathlib.Core.Path.{◌≡◌, refl, sym, ap, ◌∙◌, subst}
-use mathlib.Core.Bool.{true}
-use lib.Seq.{length-take-le}
-use lib.ListN.{length, get_or, length-set}
-use borrow.Author.Rules.{rules}
-use Rattle.order_definition.specs.Order.{Breadth}
-use Rattle.order_definition.specs.Searches.{Searched, reach_of, meet_row}
-use Rattle.order_search.proofs.Meeting.{met_to, is_new, met_to_none, meet_yes, meet_no, meet_room, met_to_all}
+use Prim.Native.Nat.{suc, ◌-◌, ◌≤◌}
+use mathlib.Core.Path.{◌≡◌}
+use lib.ListN.{length, get_or}
+use Rattle.order_definition.specs.Searches.{Searched, reach_of}
+use Rattle.order_search.proofs.Meeting.{met_to}
 use Rattle.order_search.proofs.breadth.meet_row.Given as goal
 
 abbrev pub invariant-loop-k : goal.invariant-loop-k
