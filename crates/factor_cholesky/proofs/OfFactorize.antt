@@ -26,7 +26,6 @@ use Rattle.factor_make.proofs.Meaning.{cholesky_kept}
 use Rattle.factor_make.proofs.Matrix.{matrix_cholesky, matrix_long}
 use Rattle.factor_make.proofs.Only.{only}
 use Rattle.factor_doors.specs.Factorizing.{In, Out, left, values_room, refusals, answer_of, state_of, work, door}
-use Rattle.factor_doors.specs.declared.Factored.{Factored}
 use Rattle.factor_doors.specs.declared.Factored.TheVariants.{Refused, Done, Failed}
 use Rattle.factor_cholesky.specs.Factorize.{Accepted, matrix_in, entries_in, Leaves, Answered}
 
