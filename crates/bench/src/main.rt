@@ -1,6 +1,8 @@
 // The bench program: standard input to standard output.
 #![tactic(auto)]
 
-fn main() {
-    bench_serve::inner::serve(libc::STDIN_FILENO);
+use std::io;
+
+fn main(rt: HostRuntime) -> io::Result<()> {
+    bench_serve::inner::serve(&mut rt.stdin(), &mut rt.stdout())
 }

@@ -1,11 +1,15 @@
-// What the bench programs do: a file descriptor's text in, the answer out.
-ghost use Rattle.std.specs.Prelude.{◌≤◌, length};
+// What the bench programs do: a reader's text in, the answer out.
+ghost use Rattle.std.specs.Prelude.{◌≤◌, length, OnOk, IfSome};
+ghost use Rattle.std.specs.Io.KnownBytes.{Appends};
 ghost use Rattle.law.specs.Limit.{particles};
 ghost use Rattle.bench_text.specs.Buffer.{Buffered};
 ghost use Rattle.bench_print.specs.Lines.{lines_room};
+ghost use Rattle.bench_answer.specs.Answer.{answer_of};
 ghost use Rattle.bench_serve.specs.Reply.{Replies};
 
 use bench_answer::Answered;
+use std::io;
+use std::io::{Read, Write};
 
 // Room for any answer: a line of 1,024 numbers and one for the envelope, ten digits to a number.
 const ROOM: usize = 11290;
@@ -21,10 +25,14 @@ fn reply(n: usize, buffer: &[u8], out: &mut [u8]) -> usize
     }
 }
 
-pub fn serve(fd: i32) {
+// Where no read and no write fails, what is written is the answer to all that the reader has.
+pub fn serve<R: Read, W: Write>(reader: &mut R, writer: &mut W) -> io::Result<()>
+    ensures { OnOk result
+        (IfSome (R.remaining reader.old) (λ input. Appends (W.contents writer.old) (W.contents writer.new) (answer_of input))) }
+{
     let mut buffer = [0u8; law::BYTES + 1];
-    let n = io::read_full(fd, &mut buffer);
+    let n = bench_text::buffer::read_full(reader, &mut buffer)?;
     let mut out = [0u8; ROOM];
     let k = reply(n, &buffer, &mut out);
-    io::write_all(libc::STDOUT_FILENO, &out[..k]);
+    writer.write_all(&out[..k])
 }

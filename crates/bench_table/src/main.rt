@@ -1,24 +1,24 @@
 // Answers each file that an argument names as the bench program answers its standard input, and writes the file's name before the answer.
 #![tactic(auto)]
 
-use libc::STDOUT_FILENO;
+use std::fs::File;
+use std::rt::{Env, Files};
+use std::{env, io};
 
-fn run_arg(i: usize) {
-    let mut path = io::buffer();
-    let length = os::arg(i, &mut path);
-    let fd = os::open_read(&path[..length]);
-    if fd < 0 {
-        os::fail(&path[..length]);
-        return;
+fn run_arg(rt: &(impl Files + Print + Eprint), path: &str) -> io::Result<()> {
+    match File::open(rt, path) {
+        Ok(file) => {
+            let mut text = file;
+            print!(rt; "{path}: ")?;
+            bench_serve::inner::serve(&mut text, &mut io::writer(rt))
+        }
+        Err(e) => eprintln!(rt; "{path}: {e}"),
     }
-    io::write_all(STDOUT_FILENO, &path[..length]);
-    io::write_all(STDOUT_FILENO, b": ");
-    bench_serve::inner::serve(fd);
-    libc::close(fd);
 }
 
-fn main() {
-    for i in 1..os::arg_count() {
-        run_arg(i);
+fn main(rt: HostRuntime) -> io::Result<()> {
+    for path in env::args(&rt)?.skip(1) {
+        run_arg(&rt, path.as_str())?;
     }
+    Ok(())
 }

@@ -1,8 +1,10 @@
 // A file's lines, put together from the chunks that are read.
-ghost use Rattle.std.specs.Prelude.{◌≤◌, length};
+ghost use Rattle.std.specs.Prelude.{◌≤◌, length, IfOk};
 
 use crate::answer::answer;
 use replay_tokens::print::{Room, unknown};
+use std::io;
+use std::io::{ErrorKind, Read};
 
 // Answers the line of n bytes. One that fills its buffer may have lost its end, so it is taken for none.
 fn respond(line: &[u8], n: usize, words: &mut [u32], out: &mut Room)
@@ -45,28 +47,58 @@ fn steps(chunk: &[u8], line: &mut [u8], n: usize, words: &mut [u32], out: &mut R
     at
 }
 
+// As much as one read of the file gives; one that was interrupted is tried again.
+fn read<R: Read>(file: &mut R, chunk: &mut [u8]) -> io::Result<usize>
+    ensures { IfOk result (λ k. k ≤ length chunk.new) }
+{
+    for _ in 0..u64::MAX {
+        match file.read(chunk) {
+            Ok(k) => return Ok(k),
+            Err(e) => {
+                if e.kind() != ErrorKind::Interrupted {
+                    return Err(e);
+                }
+            }
+        }
+    }
+    Err(io::Error::from(ErrorKind::Other))
+}
+
 // Every line that ends in the file; the length of what stands after the last of them. Nothing says that a file ends, so the
 // turns are counted down from a number that no run uses up.
-fn ended(fd: i32, chunk: &mut [u8], line: &mut [u8], words: &mut [u32], out: &mut Room) -> usize
-    ensures { result ≤ length line.old }
+fn ended<R: Read>(
+    file: &mut R,
+    chunk: &mut [u8],
+    line: &mut [u8],
+    words: &mut [u32],
+    out: &mut Room,
+) -> io::Result<usize>
+    ensures { IfOk result (λ n. n ≤ length line.old) }
 {
     let mut turns = u64::MAX;
     let mut n = 0usize;
     while turns > 0 {
-        let k = io::read_full(fd, chunk);
+        let k = read(file, chunk)?;
         if k == 0 {
-            return n;
+            return Ok(n);
         }
         let next = steps(&chunk[0..k], line, n, words, out);
         n = next;
         turns -= 1;
     }
-    n
+    Ok(n)
 }
 
-pub fn replay(fd: i32, chunk: &mut [u8], line: &mut [u8], words: &mut [u32], out: &mut Room) {
-    let n = ended(fd, chunk, line, words, out);
+pub fn replay<R: Read>(
+    file: &mut R,
+    chunk: &mut [u8],
+    line: &mut [u8],
+    words: &mut [u32],
+    out: &mut Room,
+) -> io::Result<()> {
+    let n = ended(file, chunk, line, words, out)?;
     if n > 0 {
         respond(line, n, words, out);
     }
+    Ok(())
 }

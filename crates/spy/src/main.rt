@@ -10,11 +10,13 @@ ghost use Rattle.bench_plan.specs.Read.{numbers_room};
 ghost use Rattle.bench_picture.specs.Ready.{line_room};
 
 use bench_sketch::inner::Sketched;
+use std::io;
+use std::io::{Read, Write};
 
 mod output;
 
 // By what the text came to.
-fn reply_in(
+fn reply_in<W: Write>(
     read: usize,
     buffer: &[u8],
     numbers: &mut [u32],
@@ -25,7 +27,8 @@ fn reply_in(
     order: &mut [u32],
     first: &mut [u32],
     line: &mut [u8],
-)
+    writer: &mut W,
+) -> io::Result<()>
     requires { Buffered read buffer.now ×
         ((length numbers.old ≡ numbers_room) ×
         (Sheet row_offsets.old cols.old diagonal.old work.old order.old
@@ -43,7 +46,7 @@ fn reply_in(
         first,
     );
     match came {
-        Sketched::Refused(k) => output::refuse(k, line),
+        Sketched::Refused(k) => output::refuse(k, line, writer),
         Sketched::Done(n) => {
             let starts = n + 1;
             let blocks = law::wide(row_offsets[n]);
@@ -55,6 +58,7 @@ fn reply_in(
                 &order[..n],
                 &first[..rows],
                 line,
+                writer,
             )
         }
     }
@@ -62,7 +66,7 @@ fn reply_in(
 
 // The lists are here, each as long as the limits ask, and nothing else. The buffer has room for more bytes than a text may have, which shows that there
 // are more.
-fn reply(read: usize, buffer: &[u8])
+fn reply<W: Write>(read: usize, buffer: &[u8], writer: &mut W) -> io::Result<()>
     requires { Buffered read buffer.now }
 {
     let mut numbers = [0u32; 8192];
@@ -84,11 +88,16 @@ fn reply(read: usize, buffer: &[u8])
         &mut order,
         &mut first,
         &mut line,
+        writer,
     )
 }
 
-fn main() {
+fn spy<R: Read, W: Write>(reader: &mut R, writer: &mut W) -> io::Result<()> {
     let mut buffer = [0u8; law::BYTES + 1];
-    let read = io::read_full(libc::STDIN_FILENO, &mut buffer);
-    reply(read, &buffer);
+    let read = bench_text::buffer::read_full(reader, &mut buffer)?;
+    reply(read, &buffer, writer)
+}
+
+fn main(rt: HostRuntime) -> io::Result<()> {
+    spy(&mut rt.stdin(), &mut rt.stdout())
 }

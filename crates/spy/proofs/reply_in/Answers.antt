@@ -9,73 +9,73 @@ refuse-requires c = c.requires.1.1.1.1
 
 pub overflow_add-starts : goal.overflow_add-starts
 overflow_add-starts c =
-    let w = c.sketch-came.ensures.done _ c.came-in-Done-1.given.1 in
+    let w = c.sketch-came.ensures.done _ c.in-Done.is in
     omega (arith, w.ready.few)
 
 pub offset_bounds-row_offsets-n : goal.offset_bounds-row_offsets-n
 offset_bounds-row_offsets-n c =
-    let w = c.sketch-came.ensures.done _ c.came-in-Done-1.given.1 in
+    let w = c.sketch-came.ensures.done _ c.in-Done.is in
     omega (arith, w.ready.few)
 
 pub bounds-row_offsets-n : goal.bounds-row_offsets-n
 bounds-row_offsets-n c =
     let p = c.requires in
-    let w = c.sketch-came.ensures.done _ c.came-in-Done-1.given.1 in
-    omega (arith, w.ready.few, p.1.1.0.starts_room, c.sketch-came.auto.1.1.0)
+    let w = c.sketch-came.ensures.done _ c.in-Done.is in
+    omega (arith, w.ready.few, p.1.1.0.starts_room, c.sketch-came.auto.row_offsets)
 
 pub overflow_mul-rows : goal.overflow_mul-rows
 overflow_mul-rows c =
-    let w = c.sketch-came.ensures.done _ c.came-in-Done-1.given.1 in
+    let w = c.sketch-came.ensures.done _ c.in-Done.is in
     omega (arith, w.ready.few)
 
 pub slice_bounds-draw-end : goal.slice_bounds-draw-end
 slice_bounds-draw-end c =
     let p = c.requires in
-    let w = c.sketch-came.ensures.done _ c.came-in-Done-1.given.1 in
-    omega (arith, w.ready.few, p.1.1.0.starts_room, c.sketch-came.auto.1.1.0)
+    let w = c.sketch-came.ensures.done _ c.in-Done.is in
+    omega (arith, w.ready.few, p.1.1.0.starts_room, c.sketch-came.auto.row_offsets)
 
 pub slice_bounds-draw-end-in-Done : goal.slice_bounds-draw-end-in-Done
 slice_bounds-draw-end-in-Done c =
     let p = c.requires in
-    let w = c.sketch-came.ensures.done _ c.came-in-Done-1.given.1 in
-    sym (length-take-le _ _ (omega (arith, w.ready.few, p.1.1.0.starts_room, c.sketch-came.auto.1.1.0)))
+    let w = c.sketch-came.ensures.done _ c.in-Done.is in
+    sym (length-take-le _ _ (omega (arith, w.ready.few, p.1.1.0.starts_room, c.sketch-came.auto.row_offsets)))
 
 pub slice_bounds-draw-end-in-Done-2 : goal.slice_bounds-draw-end-in-Done-2
 slice_bounds-draw-end-in-Done-2 c =
-    let w = c.sketch-came.ensures.done _ c.came-in-Done-1.given.1 in
+    let w = c.sketch-came.ensures.done _ c.in-Done.is in
     omega (arith, w.columns, c.wide-blocks.ensures.same)
 
 pub slice_bounds-draw-end-in-Done-3 : goal.slice_bounds-draw-end-in-Done-3
 slice_bounds-draw-end-in-Done-3 c =
-    let w = c.sketch-came.ensures.done _ c.came-in-Done-1.given.1 in
+    let w = c.sketch-came.ensures.done _ c.in-Done.is in
     sym (length-take-le _ _ (omega (arith, w.columns, c.wide-blocks.ensures.same)))
 
 pub slice_bounds-draw-end-in-Done-4 : goal.slice_bounds-draw-end-in-Done-4
 slice_bounds-draw-end-in-Done-4 c =
     let p = c.requires in
-    let w = c.sketch-came.ensures.done _ c.came-in-Done-1.given.1 in
-    omega (arith, w.ready.few, p.1.1.0.order_room, c.sketch-came.auto.1.1.1.1.1.1.0)
+    let w = c.sketch-came.ensures.done _ c.in-Done.is in
+    omega (arith, w.ready.few, p.1.1.0.order_room, c.sketch-came.auto.order)
 
 pub slice_bounds-draw-end-in-Done-5 : goal.slice_bounds-draw-end-in-Done-5
 slice_bounds-draw-end-in-Done-5 c =
     let p = c.requires in
-    let w = c.sketch-came.ensures.done _ c.came-in-Done-1.given.1 in
-    sym (length-take-le _ _ (omega (arith, w.ready.few, p.1.1.0.order_room, c.sketch-came.auto.1.1.1.1.1.1.0)))
+    let w = c.sketch-came.ensures.done _ c.in-Done.is in
+    sym (length-take-le _ _ (omega (arith, w.ready.few, p.1.1.0.order_room, c.sketch-came.auto.order)))
 
 pub slice_bounds-draw-end-in-Done-6 : goal.slice_bounds-draw-end-in-Done-6
 slice_bounds-draw-end-in-Done-6 c =
     let p = c.requires in
-    let w = c.sketch-came.ensures.done _ c.came-in-Done-1.given.1 in
-    omega (arith, w.ready.few, p.1.1.1.0, c.sketch-came.auto.1.1.1.1.1.1.1.0)
+    let w = c.sketch-came.ensures.done _ c.in-Done.is in
+    omega (arith, w.ready.few, p.1.1.1.0, c.sketch-came.auto.first)
 
 pub slice_bounds-draw-end-in-Done-7 : goal.slice_bounds-draw-end-in-Done-7
 slice_bounds-draw-end-in-Done-7 c =
     let p = c.requires in
-    let w = c.sketch-came.ensures.done _ c.came-in-Done-1.given.1 in
-    sym (length-take-le _ _ (omega (arith, w.ready.few, p.1.1.1.0, c.sketch-came.auto.1.1.1.1.1.1.1.0)))
+    let w = c.sketch-came.ensures.done _ c.in-Done.is in
+    sym (length-take-le _ _ (omega (arith, w.ready.few, p.1.1.1.0, c.sketch-came.auto.first)))
 
 pub draw-requires : goal.draw-requires
 draw-requires c =
     let p = c.requires in
-    let w = c.sketch-came.ensures.done _ c.came-in-Done-1.given.1 in
+    let w = c.sketch-came.ensures.done _ c.in-Done.is in
     (rw c.wide-blocks.ensures.same w.ready, p.1.1.1.1)

@@ -2,7 +2,7 @@ use borrow.Author.Rules.{rules}
 use Rattle.abi_answers.proofs.ended.after.Goals as goal
 
 pub returns-in-Refused : goal.returns-in-Refused
-returns-in-Refused c = rw (c.filled.ensures, c.enum_told-1.given.1)
+returns-in-Refused c = rw (c.filled.ensures, c.in-Refused.is)
 
 pub returns-in-Ran : goal.returns-in-Ran
-returns-in-Ran c = rw c.s-1.given.1 c.told.ensures
+returns-in-Ran c = rw c.in-Ran.is c.told.ensures

@@ -2,16 +2,16 @@ use borrow.Author.Rules.{rules}
 use Rattle.abi_answers.proofs.ended.told.Goals as goal
 
 pub returns-in-Zero : goal.returns-in-Zero
-returns-in-Zero c = rw (c.filled.ensures, c.o-1.given.1)
+returns-in-Zero c = rw (c.filled.ensures, c.in-Zero.is)
 
 pub returns-in-Near : goal.returns-in-Near
-returns-in-Near c = rw (c.filled-in-Near.ensures, c.o-in-Near-1.given.1)
+returns-in-Near c = rw (c.filled-in-Near.ensures, c.in-Near.is)
 
 pub returns-in-Converged : goal.returns-in-Converged
-returns-in-Converged c = rw (c.filled-in-Converged.ensures, c.o-in-Converged-1.given.1)
+returns-in-Converged c = rw (c.filled-in-Converged.ensures, c.in-Converged.is)
 
 pub returns-in-Curvature : goal.returns-in-Curvature
-returns-in-Curvature c = rw (c.filled-in-Curvature.ensures, c.o-in-Curvature-1.given.1)
+returns-in-Curvature c = rw (c.filled-in-Curvature.ensures, c.in-Curvature.is)
 
 pub returns-in-Limit : goal.returns-in-Limit
-returns-in-Limit c = rw (c.filled-in-Limit.ensures, c.o-in-Limit-1.given.1)
+returns-in-Limit c = rw (c.filled-in-Limit.ensures, c.in-Limit.is)

@@ -2,7 +2,7 @@ use borrow.Author.Rules.{rules}
 use Rattle.abi_columns_answers.proofs.block.block_after.Goals as goal
 
 pub returns-in-NotLoaded : goal.returns-in-NotLoaded
-returns-in-NotLoaded c = rw c.enum_told-in-NotLoaded-1.given.1
+returns-in-NotLoaded c = rw c.in-NotLoaded.is
 
 pub returns-in-Block : goal.returns-in-Block
-returns-in-Block c = rw c.b-1.given.1
+returns-in-Block c = rw c.in-Block.is

@@ -2,4 +2,4 @@ use borrow.Author.Rules.{rules}
 use Rattle.abi_columns_answers.proofs.computed.ended_after.Goals as goal
 
 pub returns-in-Ended : goal.returns-in-Ended
-returns-in-Ended c = rw c.c-1.given.1
+returns-in-Ended c = rw c.in-Ended.is

@@ -2,13 +2,13 @@ use borrow.Author.Rules.{rules}
 use Rattle.abi_step_answers.proofs.responded.after.Goals as goal
 
 pub returns-in-Refused : goal.returns-in-Refused
-returns-in-Refused c = rw c.enum_told-1.given.1
+returns-in-Refused c = rw c.in-Refused.is
 
 pub returns-in-Nothing : goal.returns-in-Nothing
-returns-in-Nothing c = rw (c.bare.ensures, c.enum_told-in-Nothing-1.given.1)
+returns-in-Nothing c = rw (c.bare.ensures, c.in-Nothing.is)
 
 pub returns-in-Direct : goal.returns-in-Direct
-returns-in-Direct c = rw (c.bare-in-Direct.ensures, c.enum_told-in-Direct-1.given.1)
+returns-in-Direct c = rw (c.bare-in-Direct.ensures, c.in-Direct.is)
 
 pub returns-in-Iterated : goal.returns-in-Iterated
-returns-in-Iterated c = rw (c.told.ensures, c.r-1.given.1)
+returns-in-Iterated c = rw (c.told.ensures, c.in-Iterated.is)

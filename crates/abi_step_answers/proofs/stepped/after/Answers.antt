@@ -2,10 +2,10 @@ use borrow.Author.Rules.{rules}
 use Rattle.abi_step_answers.proofs.stepped.after.Goals as goal
 
 pub returns-in-Refused : goal.returns-in-Refused
-returns-in-Refused c = rw c.enum_told-1.given.1
+returns-in-Refused c = rw c.in-Refused.is
 
 pub returns-in-Direct : goal.returns-in-Direct
-returns-in-Direct c = rw (c.bare.ensures, c.enum_told-in-Direct-1.given.1)
+returns-in-Direct c = rw (c.bare.ensures, c.in-Direct.is)
 
 pub returns-in-Iterated : goal.returns-in-Iterated
-returns-in-Iterated c = rw (c.told.ensures, c.s-1.given.1)
+returns-in-Iterated c = rw (c.told.ensures, c.in-Iterated.is)

@@ -11,22 +11,22 @@ returns-then-out-n c = gave_three _ _ _ _ c.requires.0 c.if-out-n.true
 pub slice_bounds-write_plan-end : goal.slice_bounds-write_plan-end
 slice_bounds-write_plan-end c =
     let p = c.requires in
-    omega (arith, p.0.few, p.1.0.order_room, c.from_pairs-came.auto.1.1.1.1.1.0)
+    omega (arith, p.0.few, p.1.0.order_room, c.from_pairs-came.auto.order)
 
 pub slice_bounds-write_plan-end-in-Done : goal.slice_bounds-write_plan-end-in-Done
 slice_bounds-write_plan-end-in-Done c =
     let p = c.requires in
-    sym (length-take-le _ _ (omega (arith, p.0.few, p.1.0.order_room, c.from_pairs-came.auto.1.1.1.1.1.0)))
+    sym (length-take-le _ _ (omega (arith, p.0.few, p.1.0.order_room, c.from_pairs-came.auto.order)))
 
 pub write_plan-k-requires : goal.write_plan-k-requires
 write_plan-k-requires c =
     let p = c.requires in
-    lines_fit _ _ _ (omega (arith, p.0.few, p.1.0.order_room, c.from_pairs-came.auto.1.1.1.1.1.0)) c.if-out-n.false
+    lines_fit _ _ _ (omega (arith, p.0.few, p.1.0.order_room, c.from_pairs-came.auto.order)) c.if-out-n.false
 
 pub returns-in-Refused : goal.returns-in-Refused
 returns-in-Refused c =
-    gave_refusal _ _ _ _ c.if-out-n.false c.from_pairs-came.result _ _ _ _ c.from_pairs-came.ensures _ c.came-1.given.1
+    gave_refusal _ _ _ _ c.if-out-n.false c.from_pairs-came.result _ _ _ _ c.from_pairs-came.ensures _ c.in-Refused.is
 
 pub returns-in-Done : goal.returns-in-Done
 returns-in-Done c =
-    gave_lines _ _ _ _ c.if-out-n.false c.from_pairs-came.result _ _ _ _ c.from_pairs-came.ensures _ _ c.came-in-Done-1.given.1 _ _ c.write_plan-k.ensures
+    gave_lines _ _ _ _ c.if-out-n.false c.from_pairs-came.result _ _ _ _ c.from_pairs-came.ensures _ _ c.in-Done.is _ _ c.write_plan-k.ensures

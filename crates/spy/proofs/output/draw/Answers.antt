@@ -17,7 +17,7 @@ loop-i-init c = (search rules, refl)
 
 pub write_line-k-requires : goal.write_line-k-requires
 write_line-k-requires c =
-    (c.requires.0, (c.loop-i-test.true, omega (arith, c.requires.0.few, c.requires.1, c.loop-i.invariant.1, c.header.auto.1.0)))
+    (c.requires.0, (c.loop-i-test.true, omega (arith, c.requires.0.few, c.requires.1, c.loop-i.invariant.1, c.header.auto.line)))
 
 pub slice_bounds-write_all-end : goal.slice_bounds-write_all-end
 slice_bounds-write_all-end c = c.write_line-k.ensures.within
@@ -27,4 +27,4 @@ slice_bounds-write_all-end-in-loop-i c = c.write_line-k.ensures.taken
 
 pub loop-i-preserved : goal.loop-i-preserved
 loop-i-preserved c =
-    (search rules, c.write_line-k.auto.1.1.1.1.1.1.0 ∙ c.loop-i.invariant.1)
+    (search rules, c.write_line-k.auto.out ∙ c.loop-i.invariant.1)
