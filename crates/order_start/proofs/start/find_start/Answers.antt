@@ -1,7 +1,6 @@
 use native.Mathlib.Omega.{arith}
 use mathlib.Core.Path.{sym, ap, ◌∙◌}
 use lib.ListN.{length}
-use borrow.Author.Rules.{rules}
 use Rattle.order_definition.specs.Order.{numbers}
 use Rattle.order_definition.specs.Searches.{FreeAt}
 use Rattle.order_start.proofs.Settling.{counted_below, least_is, least_free_at, far_free_at, choose_is}

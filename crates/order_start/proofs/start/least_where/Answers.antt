@@ -1,4 +1,4 @@
-use Prim.Native.Nat.{ℕ, suc, ◌+◌, ◌-◌, ◌≤◌, ◌<◌}
+use Prim.Native.Nat.{ℕ, suc, ◌+◌, ◌≤◌, ◌<◌}
 use native.Mathlib.Numerals.{add-one}
 use native.Mathlib.Omega.{arith}
 use mathlib.Core.Path.{◌≡◌, sym, ap, ◌∙◌}
@@ -6,7 +6,6 @@ use mathlib.Core.List.{List}
 use lib.Seq.{take_all}
 use lib.ListN.{length, get_or, take}
 use borrow.Author.Tests.{eq-eqb, ne_eqb}
-use borrow.Author.Rules.{rules}
 use Rattle.order_definition.specs.Order.{least, passing}
 use Rattle.order_definition.specs.Keys.{key_of, valued, offer}
 use Rattle.order_definition.proofs.Choosing.{best_le, best_yes, best_no}

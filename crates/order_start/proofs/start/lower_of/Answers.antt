@@ -1,7 +1,6 @@
 use mathlib.Core.Path.{sym, ◌∙◌}
 use lib.ListN.{length}
 use borrow.Author.Tests.{eq-eqb, ne_eqb}
-use borrow.Author.Rules.{rules}
 use Rattle.order_start.proofs.start.lower_of.Goals as goal
 
 pub returns-then-best-degrees : goal.returns-then-best-degrees

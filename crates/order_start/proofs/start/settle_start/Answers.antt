@@ -1,11 +1,9 @@
-use Prim.Native.Nat.{◌-◌, ◌≤◌}
+use Prim.Native.Nat.{◌-◌}
 use native.Mathlib.Omega.{arith}
 use mathlib.Core.Path.{◌≡◌, refl, sym, ◌∙◌}
 use lib.ListN.{length}
-use borrow.Author.Rules.{rules}
-use Rattle.order_definition.specs.Order.{neighbours, settle}
+use Rattle.order_definition.specs.Order.{neighbours}
 use Rattle.order_definition.specs.Marks.{unmarked}
-use Rattle.order_definition.specs.Searches.{FreeAt}
 use Rattle.order_start.proofs.Settling.{settle_stop, settle_go, far_free_at, none}
 use Rattle.order_start.proofs.start.settle_start.Goals as goal
 
