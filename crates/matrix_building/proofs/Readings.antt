@@ -13,7 +13,7 @@ use Rattle.matrix_shape.specs.Made.{row_of, cols_of, start_of, slot_of, starts_o
 use Rattle.matrix_pairs.specs.Pairs.{joined, stored_by}
 use Rattle.matrix_build.specs.Build.{built_of}
 use Rattle.matrix_building.specs.declared.Built.TheVariants.{Refused, Done}
-use Rattle.matrix_building.specs.Building.{In, Out, given, left, lists_room, refusals, work, door}
+use Rattle.matrix_building.specs.Building.{In, given, left, lists_room, refusals, work, door}
 
 -- lists full of sevens, with two places more than a call with so many pairs needs
 handed : ℕ → ℕ → List ℕ → ℕ → In

@@ -1,6 +1,6 @@
 -- THE DOOR `pattern_from_pairs`: the pattern of given pairs, without block values.
-use Rattle.std.specs.Prelude.{ℕ, ◌+◌, ◌*◌, ◌≤◌, ◌<◌, ◌≡◌, true, List, [], ◌∷◌, ◌++◌, length, drop, leb}
-use Rattle.std.proofs.Common.{ap, ◌∙◌, arith, leb-true}
+use Rattle.std.specs.Prelude.{ℕ, ◌+◌, ◌*◌, ◌≤◌, ◌≡◌, true, List, [], ◌∷◌, ◌++◌, length, drop, leb}
+use Rattle.std.proofs.Common.{ap, arith, leb-true}
 use Rattle.law.specs.Every.{every}
 use Rattle.law.specs.Limit.{particles, pairs as pairLimit}
 use Rattle.law.specs.Number.{too_many_particles, too_many_entries, short_buffer, out_of_range}

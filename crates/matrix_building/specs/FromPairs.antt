@@ -1,5 +1,5 @@
 -- THE DOOR `from_pairs`: the pattern of given pairs, with block values that start zero.
-use Rattle.std.specs.Prelude.{ℕ, ◌+◌, ◌*◌, ◌≤◌, ◌<◌, ◌≡◌, true, List, [], ◌∷◌, length, leb, Float}
+use Rattle.std.specs.Prelude.{ℕ, ◌*◌, ◌≤◌, ◌≡◌, true, List, [], ◌∷◌, length, leb, Float}
 use Rattle.std.proofs.Common.{ap₂, arith}
 use Rattle.law.specs.Every.{every}
 use Rattle.law.specs.Limit.{particles, pairs as pairLimit}

@@ -1,10 +1,10 @@
 -- THE DOOR `clear_values`: zeros in every block.
-use Rattle.std.specs.Prelude.{ℕ, ◌+◌, ◌*◌, ◌≤◌, ◌<◌, ◌≡◌, true, List, [], ◌∷◌, length, leb, ltb, Float}
-use Rattle.std.proofs.Common.{ap, arith, leb-true, ltb-true}
+use Rattle.std.specs.Prelude.{ℕ, ◌*◌, ◌≤◌, ◌≡◌, true, List, [], ◌∷◌, length, leb, Float}
+use Rattle.std.proofs.Common.{arith, leb-true}
 use Rattle.law.specs.Limit.{particles}
 use Rattle.law.specs.Mix.{mix}
 use Rattle.law.specs.Number.{too_many_particles, short_buffer, bad_pattern}
-use Rattle.law.specs.Room.{Room, enough, enough_is}
+use Rattle.law.specs.Room.{enough, enough_is}
 use Rattle.law.specs.Refusal.{Test, unless, Rising, verdict, all_pass}
 use Rattle.law.specs.Promise.{Door}
 use Rattle.law.specs.Said.{Said}

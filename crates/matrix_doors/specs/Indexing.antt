@@ -1,5 +1,5 @@
 -- THE DOORS THAT ASK FOR A SLOT: `block_index` and `diagonal_index`. They change nothing, so the answer is all that they leave.
-use Rattle.std.specs.Prelude.{ℕ, ◌+◌, ◌≤◌, ◌<◌, ◌≡◌, true, List, [], ◌∷◌, leb, ltb}
+use Rattle.std.specs.Prelude.{ℕ, ◌<◌, ◌≡◌, true, List, [], ◌∷◌, leb, ltb}
 use Rattle.std.proofs.Common.{arith, leb-true, ltb-true}
 use Rattle.law.specs.Limit.{particles}
 use Rattle.law.specs.Number.{too_many_particles, short_buffer, out_of_range, bad_pattern}

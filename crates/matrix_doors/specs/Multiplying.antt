@@ -1,6 +1,6 @@
 -- THE DOOR `mul`: out is the product of the matrix and x.
-use Rattle.std.specs.Prelude.{ℕ, ◌+◌, ◌*◌, ◌≤◌, ◌<◌, ◌≡◌, true, List, [], ◌∷◌, length, leb, ltb, Float}
-use Rattle.std.proofs.Common.{ap, arith, leb-true, ltb-true}
+use Rattle.std.specs.Prelude.{ℕ, ◌*◌, ◌≤◌, ◌≡◌, true, List, [], ◌∷◌, length, leb, Float}
+use Rattle.std.proofs.Common.{arith, leb-true}
 use Rattle.law.specs.Limit.{particles}
 use Rattle.law.specs.Mix.{mix}
 use Rattle.law.specs.Number.{too_many_particles, short_buffer, bad_pattern}

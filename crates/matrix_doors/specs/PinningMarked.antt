@@ -1,5 +1,5 @@
 -- THE DOOR `make_dirichlet_marked`: every marked row pinned.
-use Rattle.std.specs.Prelude.{ℕ, ◌*◌, ◌≤◌, ◌≡◌, true, List, [], ◌∷◌, length, leb, Float}
+use Rattle.std.specs.Prelude.{ℕ, ◌*◌, ◌≡◌, true, List, [], ◌∷◌, length, leb, Float}
 use Rattle.std.proofs.Common.{arith, leb-true}
 use Rattle.law.specs.Limit.{particles}
 use Rattle.law.specs.Number.{too_many_particles, short_buffer, bad_pattern}

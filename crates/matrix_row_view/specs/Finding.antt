@@ -1,6 +1,6 @@
 -- WHAT `row_slot` FINDS, in words, by the lists as they stand: a slot of the row that has the column; and where the row's columns rise strictly, none only
 -- where no slot has it. Over a well formed pattern it finds what `block_index` does.
-use Rattle.std.specs.Prelude.{ℕ, ◌+◌, ◌-◌, ◌≤◌, ◌<◌, ◌≡◌, List}
+use Rattle.std.specs.Prelude.{ℕ, ◌-◌, ◌≤◌, ◌<◌, ◌≡◌, List}
 use Rattle.std.proofs.Common.{sym, ap, ◌∙◌, ⊎_elim, arith, get_or-take}
 use Rattle.law.specs.Limit.{absent}
 use Rattle.law.specs.Truth.{below_or, same_or}

@@ -14,7 +14,7 @@ use Rattle.law.specs.Room.{enough_of}
 use Rattle.law.specs.Promise.{Door, outcome, accepts, zero_from}
 use Rattle.matrix_shape.specs.Rows.{at, Pattern, row_end}
 use Rattle.matrix_row.specs.declared.inner.Span.{Span}
-use Rattle.matrix_row.specs.Row.{none, span_of, row_cols, col_or}
+use Rattle.matrix_row.specs.Row.{none, span_of, row_cols}
 use Rattle.matrix_row_view.specs.declared.Spanned.TheVariants.{Slots}
 use Rattle.matrix_row_view.specs.Showing.{In, given, own_starts, own_cols, slots_of, column_of, refusals, rows_room, Ready, ready}
 use Rattle.matrix_row_view.specs.Showing.{span_door, column_door, slot_door}

@@ -1,9 +1,9 @@
 -- A PATTERN AS A CALL IS HANDED IT: the block count is the last row offset as it stands, and each list needs just the places that its content fills.
-use Rattle.std.specs.Prelude.{ℕ, ◌+◌, ◌*◌, ◌≤◌, ◌<◌, ◌≡◌, Bool, List, [], ◌∷◌, length, Float}
+use Rattle.std.specs.Prelude.{ℕ, ◌+◌, ◌*◌, ◌≤◌, ◌≡◌, Bool, List, [], ◌∷◌, length, Float}
 use Rattle.std.proofs.Math.Bool.{true}
 use Rattle.std.proofs.Common.{arith}
 use Rattle.law.specs.Limit.{particles}
-use Rattle.law.specs.Room.{Room, enough, Enough, enough_is}
+use Rattle.law.specs.Room.{Room, enough, enough_is}
 use Rattle.matrix_shape.specs.Formed.{well_formed, formed_is}
 use Rattle.matrix_shape.specs.Rows.{at, Held, Pattern}
 

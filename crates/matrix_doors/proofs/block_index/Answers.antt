@@ -4,7 +4,6 @@ use Rattle.law.specs.Promise.{refuses, accepts}
 use Rattle.matrix_shape.specs.Index.{line_of}
 use Rattle.matrix_doors.specs.declared.Found.TheVariants.{Slot}
 use Rattle.matrix_doors.specs.Indexing as indexing
-use borrow.Author.Rules.{rules}
 use Rattle.matrix_doors.proofs.block_index.Goals as goal
 
 pub returns-then-no-ne0 : goal.returns-then-no-ne0

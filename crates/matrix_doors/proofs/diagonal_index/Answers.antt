@@ -2,7 +2,6 @@ use mathlib.Core.Path.{refl, sym, ◌∙◌}
 use native.Mathlib.Omega.{arith}
 use Rattle.law.specs.Promise.{refuses, accepts}
 use Rattle.matrix_doors.specs.Indexing as indexing
-use borrow.Author.Rules.{rules}
 use Rattle.matrix_doors.proofs.diagonal_index.Goals as goal
 
 pub returns-then-no-ne0 : goal.returns-then-no-ne0

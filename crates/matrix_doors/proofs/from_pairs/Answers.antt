@@ -1,7 +1,6 @@
-use mathlib.Core.Path.{sym, ◌∙◌, refl}
+use mathlib.Core.Path.{sym, ◌∙◌}
 use Rattle.law.specs.Promise.{refuses, accepts}
 use Rattle.matrix_building.specs.FromPairs as frompairs
-use borrow.Author.Rules.{rules}
 use Rattle.matrix_doors.proofs.from_pairs.Goals as goal
 
 pub returns-then-no-ne0 : goal.returns-then-no-ne0

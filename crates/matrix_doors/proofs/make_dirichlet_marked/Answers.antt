@@ -2,7 +2,6 @@ use mathlib.Core.Path.{sym, ap, ◌∙◌}
 use Rattle.law.specs.Promise.{refuses, accepts}
 use Rattle.matrix_doors.specs.PinningMarked as pinningmarked
 use Rattle.matrix_doors.specs.declared.Ran.TheVariants.{Done}
-use borrow.Author.Rules.{rules}
 use Rattle.matrix_doors.proofs.make_dirichlet_marked.Goals as goal
 
 pub returns-then-no-ne0 : goal.returns-then-no-ne0

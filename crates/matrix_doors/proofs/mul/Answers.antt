@@ -3,7 +3,6 @@ use Rattle.law.specs.Promise.{refuses, accepts}
 use Rattle.matrix_doors.specs.Multiplying as multiplying
 use Rattle.matrix_shape.specs.Rows.{rows_of}
 use Rattle.matrix_doors.specs.declared.Ran.TheVariants.{Done}
-use borrow.Author.Rules.{rules}
 use Rattle.matrix_doors.proofs.mul.Goals as goal
 
 pub returns-then-no-ne0 : goal.returns-then-no-ne0

@@ -3,7 +3,6 @@ use mathlib.Core.Path.{sym, ap, ◌∙◌}
 use Rattle.law.specs.Promise.{refuses, accepts}
 use Rattle.matrix_row_view.specs.declared.Seen.TheVariants.{Col}
 use Rattle.matrix_row_view.specs.Showing.{seen, column_door, ready}
-use borrow.Author.Rules.{rules}
 use Rattle.matrix_row_view.proofs.row_col.Goals as goal
 
 pub returns-then-no-ne0 : goal.returns-then-no-ne0

@@ -1,7 +1,6 @@
 use mathlib.Core.Path.{sym, ap, ◌∙◌}
 use Rattle.law.specs.Promise.{refuses, accepts}
 use Rattle.matrix_row_view.specs.Showing.{spanned, span_door, ready}
-use borrow.Author.Rules.{rules}
 use Rattle.matrix_row_view.proofs.row_span.Goals as goal
 
 pub returns-then-no-ne0 : goal.returns-then-no-ne0

@@ -5,7 +5,6 @@ use lib.ListN.{length, set, length-set}
 use Rattle.law.specs.Store.{written_long}
 use Rattle.matrix_lists.specs.Chain.{chain_raise}
 use Rattle.matrix_build.specs.Filled.{never, row_rank, row_length, row_stored}
-use borrow.Author.Rules.{rules}
 use Rattle.matrix_build.proofs.filling.fill_row.Goals as goal
 
 pub sweep-low-requires : goal.sweep-low-requires

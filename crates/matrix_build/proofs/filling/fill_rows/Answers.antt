@@ -2,11 +2,11 @@ use mathlib.Core.Path.{◌≡◌, sym, ap, ◌∙◌}
 use mathlib.Core.Bool.{Bool}
 use mathlib.Core.List.{List}
 use mathlib.Core.Logic.{inr}
-use Prim.Native.Nat.{ℕ, ◌+◌, ◌-◌, ◌≤◌, ◌<◌}
+use Prim.Native.Nat.{ℕ, ◌+◌, ◌<◌}
 use native.Mathlib.Omega.{arith}
-use lib.ListN.{get_or, length-set}
-use Rattle.law.specs.Gather.{gather, table, length_table}
-use Rattle.law.specs.Store.{written, write_none, write_more, table_more, written_whole, written_long, written_other}
+use lib.ListN.{get_or}
+use Rattle.law.specs.Gather.{table, length_table}
+use Rattle.law.specs.Store.{write_none, write_more, table_more, written_whole, written_long, written_other}
 use Rattle.matrix_shape.specs.Made.{row_of, start_of, slot_of, starts_of, cols_of, slots_of, start_none, start_more, start_rise}
 use Rattle.matrix_pairs.specs.Pairs.{stored_by}
 use borrow.Author.Rules.{rules}

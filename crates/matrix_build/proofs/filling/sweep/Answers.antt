@@ -6,7 +6,6 @@ use Rattle.law.specs.Store.{written_long}
 use Rattle.matrix_lists.specs.Ways.{apart}
 use Rattle.matrix_lists.specs.Chain.{chain_front}
 use Rattle.matrix_build.specs.Swept.{Sweeping, sweep_none, sweep_link, sweep_next, sweep_room, sweep_more, sweep_done}
-use borrow.Author.Rules.{rules}
 use Rattle.matrix_build.proofs.filling.sweep.Goals as goal
 
 pub front-c-requires : goal.front-c-requires

@@ -1,10 +1,5 @@
-use Prim.Native.Nat.{◌*◌, ◌-◌, ◌≤◌, ◌<◌}
-use native.Mathlib.Omega.{arith}
-use lib.ListN.{length, get_or}
-use Rattle.law.specs.Store.{written_long}
-use Rattle.matrix_lists.specs.Chain.{chain_front}
-use Rattle.matrix_build.specs.Swept.{Sweeping, sweep_none, sweep_link, sweep_next, sweep_room, sweep_more, sweep_done}
-use borrow.Author.Rules.{rules}
+use Prim.Native.Nat.{◌-◌}
+use Rattle.matrix_build.specs.Swept.{Sweeping}
 use Rattle.matrix_build.proofs.filling.sweep.Given as goal
 
 abbrev pub invariant-loop-c : goal.invariant-loop-c

@@ -3,7 +3,6 @@ use Prim.Native.Nat.{ℕ}
 use native.Mathlib.Omega.{arith}
 use lib.ListN.{replicate}
 use Rattle.matrix_build.specs.Built.{given, unfilled, built}
-use borrow.Author.Rules.{rules}
 use Rattle.matrix_build.proofs.inner.build.Goals as goal
 
 pub fill_rows-k-requires : goal.fill_rows-k-requires

@@ -1,7 +1,6 @@
 use mathlib.Core.Path.{sym}
 use lib.Seq.{length-take-le}
 use Rattle.matrix_building.specs.Building as building
-use borrow.Author.Rules.{rules}
 use Rattle.matrix_building.proofs.inner.build.Goals as goal
 
 pub slice_bounds-build-end-2 : goal.slice_bounds-build-end-2

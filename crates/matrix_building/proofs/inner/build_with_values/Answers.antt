@@ -1,5 +1,4 @@
 use Rattle.matrix_building.specs.FromPairs as frompairs
-use borrow.Author.Rules.{rules}
 use Rattle.matrix_building.proofs.inner.build_with_values.Goals as goal
 
 pub returns : goal.returns

@@ -1,7 +1,6 @@
 use mathlib.Core.Path.{refl}
 use Rattle.law.specs.Room.{enough}
 use Rattle.matrix_building.specs.FromPairs as frompairs
-use borrow.Author.Rules.{rules}
 use Rattle.matrix_building.proofs.refuse.fresh_room.Goals as goal
 
 pub returns : goal.returns

@@ -1,4 +1,3 @@
-use borrow.Author.Rules.{rules}
 use Rattle.matrix_doors.proofs.inner.clear_all.Goals as goal
 
 pub returns : goal.returns

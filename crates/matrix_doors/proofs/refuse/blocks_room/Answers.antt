@@ -1,6 +1,5 @@
 use Rattle.law.specs.Room.{enough}
 use Rattle.matrix_shape.specs.Given.{blocks_room}
-use borrow.Author.Rules.{rules}
 use Rattle.matrix_doors.proofs.refuse.blocks_room.Goals as goal
 
 pub returns : goal.returns

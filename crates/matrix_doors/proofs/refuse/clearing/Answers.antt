@@ -1,9 +1,10 @@
+use mathlib.Core.Path.{ap}
+use mathlib.Core.Bool.{not}
 use borrow.Author.Tests.{le-leb, lt-leb}
 use Rattle.law.specs.Refusal.{goes_on, stops, ends}
 use Rattle.law.specs.Truth.{refused, passed}
 use Rattle.matrix_shape.specs.Given.{held}
 use Rattle.matrix_doors.specs.Clearing.{refusals}
-use borrow.Author.Rules.{rules}
 use Rattle.matrix_doors.proofs.refuse.clearing.Goals as goal
 
 pub returns-then-n-gt-PARTICLES : goal.returns-then-n-gt-PARTICLES
@@ -15,35 +16,35 @@ pub returns-then-not-pattern_room : goal.returns-then-not-pattern_room
 unfolding refusals
 returns-then-not-pattern_room c =
     goes_on _ _ _ _ (le-leb _ _ c.if-n-gt-PARTICLES.false)
-    (stops _ _ _ (refused _ _ c.pattern_room.ensures c.if-not-pattern_room.true-raw))
+    (stops _ _ _ (refused _ _ c.pattern_room.ensures (ap not c.if-not-pattern_room.true)))
 
 pub blocks_room-requires : goal.blocks_room-requires
-blocks_room-requires c = (held _ _ _ _ (passed _ _ c.pattern_room.ensures c.if-not-pattern_room.false-raw)).places
+blocks_room-requires c = (held _ _ _ _ (passed _ _ c.pattern_room.ensures (ap not c.if-not-pattern_room.false))).places
 
 pub returns-then-not-blocks_room : goal.returns-then-not-blocks_room
 unfolding refusals
 returns-then-not-blocks_room c =
     goes_on _ _ _ _ (le-leb _ _ c.if-n-gt-PARTICLES.false)
-    (goes_on _ _ _ _ (passed _ _ c.pattern_room.ensures c.if-not-pattern_room.false-raw)
-    (stops _ _ _ (refused _ _ c.blocks_room.ensures c.if-not-blocks_room.true-raw)))
+    (goes_on _ _ _ _ (passed _ _ c.pattern_room.ensures (ap not c.if-not-pattern_room.false))
+    (stops _ _ _ (refused _ _ c.blocks_room.ensures (ap not c.if-not-blocks_room.true))))
 
 pub pattern_formed-requires : goal.pattern_formed-requires
 pattern_formed-requires c =
-    (c.if-n-gt-PARTICLES.false, held _ _ _ _ (passed _ _ c.pattern_room.ensures c.if-not-pattern_room.false-raw))
+    (c.if-n-gt-PARTICLES.false, held _ _ _ _ (passed _ _ c.pattern_room.ensures (ap not c.if-not-pattern_room.false)))
 
 pub returns-then-not-pattern_formed : goal.returns-then-not-pattern_formed
 unfolding refusals
 returns-then-not-pattern_formed c =
     goes_on _ _ _ _ (le-leb _ _ c.if-n-gt-PARTICLES.false)
-    (goes_on _ _ _ _ (passed _ _ c.pattern_room.ensures c.if-not-pattern_room.false-raw)
-    (goes_on _ _ _ _ (passed _ _ c.blocks_room.ensures c.if-not-blocks_room.false-raw)
-    (stops _ _ _ (refused _ _ c.pattern_formed.ensures c.if-not-pattern_formed.true-raw))))
+    (goes_on _ _ _ _ (passed _ _ c.pattern_room.ensures (ap not c.if-not-pattern_room.false))
+    (goes_on _ _ _ _ (passed _ _ c.blocks_room.ensures (ap not c.if-not-blocks_room.false))
+    (stops _ _ _ (refused _ _ c.pattern_formed.ensures (ap not c.if-not-pattern_formed.true)))))
 
 pub returns : goal.returns
 unfolding refusals
 returns c =
     goes_on _ _ _ _ (le-leb _ _ c.if-n-gt-PARTICLES.false)
-    (goes_on _ _ _ _ (passed _ _ c.pattern_room.ensures c.if-not-pattern_room.false-raw)
-    (goes_on _ _ _ _ (passed _ _ c.blocks_room.ensures c.if-not-blocks_room.false-raw)
-    (goes_on _ _ _ _ (passed _ _ c.pattern_formed.ensures c.if-not-pattern_formed.false-raw)
+    (goes_on _ _ _ _ (passed _ _ c.pattern_room.ensures (ap not c.if-not-pattern_room.false))
+    (goes_on _ _ _ _ (passed _ _ c.blocks_room.ensures (ap not c.if-not-blocks_room.false))
+    (goes_on _ _ _ _ (passed _ _ c.pattern_formed.ensures (ap not c.if-not-pattern_formed.false))
     ends)))

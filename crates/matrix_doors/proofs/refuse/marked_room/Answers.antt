@@ -1,6 +1,5 @@
 use Rattle.law.specs.Room.{enough}
 use Rattle.matrix_doors.specs.PinningMarked.{marked_room}
-use borrow.Author.Rules.{rules}
 use Rattle.matrix_doors.proofs.refuse.marked_room.Goals as goal
 
 pub returns : goal.returns

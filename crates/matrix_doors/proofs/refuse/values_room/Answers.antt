@@ -1,6 +1,5 @@
 use Rattle.law.specs.Room.{enough}
 use Rattle.matrix_doors.specs.Multiplying as multiplying
-use borrow.Author.Rules.{rules}
 use Rattle.matrix_doors.proofs.refuse.values_room.Goals as goal
 
 pub returns : goal.returns

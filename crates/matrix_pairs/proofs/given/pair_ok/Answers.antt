@@ -1,4 +1,3 @@
-use borrow.Author.Rules.{rules}
 use Rattle.matrix_pairs.proofs.given.pair_ok.Goals as goal
 
 pub returns : goal.returns

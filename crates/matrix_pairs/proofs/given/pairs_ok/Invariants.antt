@@ -1,8 +1,6 @@
-use borrow.Author.Rules.{rules}
 use mathlib.Core.Path.{◌≡◌}
-use Prim.Native.Nat.{◌-◌, ◌≤◌, zero-le}
-use native.Mathlib.Omega.{arith}
-use Rattle.law.specs.Every.{every, every_none, every_more}
+use Prim.Native.Nat.{◌-◌, ◌≤◌}
+use Rattle.law.specs.Every.{every}
 use Rattle.matrix_pairs.specs.Pairs.{pair_ok_at}
 use Rattle.matrix_pairs.proofs.given.pairs_ok.Given as goal
 

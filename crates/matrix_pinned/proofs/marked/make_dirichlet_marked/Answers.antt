@@ -1,9 +1,8 @@
-use mathlib.Core.Path.{◌≡◌, refl, ◌∙◌}
-use Prim.Native.Nat.{◌-◌, ◌≤◌, zero-le}
+use mathlib.Core.Path.{refl, ◌∙◌}
+use Prim.Native.Nat.{zero-le}
 use native.Mathlib.Omega.{arith}
-use lib.ListN.{length}
-use Rattle.law.specs.Loop.{over, over_none, over_turn, over_done}
-use Rattle.matrix_pinned.specs.Marked.{pin_step, pinned_marked}
+use Rattle.law.specs.Loop.{over_none, over_turn, over_done}
+use Rattle.matrix_pinned.specs.Marked.{pinned_marked}
 use borrow.Author.Rules.{rules}
 use Rattle.matrix_pinned.proofs.marked.make_dirichlet_marked.Goals as goal
 

@@ -1,10 +1,8 @@
-use mathlib.Core.Path.{◌≡◌, refl, ◌∙◌}
-use Prim.Native.Nat.{◌-◌, ◌≤◌, zero-le}
-use native.Mathlib.Omega.{arith}
+use mathlib.Core.Path.{◌≡◌}
+use Prim.Native.Nat.{◌-◌, ◌≤◌}
 use lib.ListN.{length}
-use Rattle.law.specs.Loop.{over, over_none, over_turn, over_done}
-use Rattle.matrix_pinned.specs.Marked.{pin_step, pinned_marked}
-use borrow.Author.Rules.{rules}
+use Rattle.law.specs.Loop.{over}
+use Rattle.matrix_pinned.specs.Marked.{pin_step}
 use Rattle.matrix_pinned.proofs.marked.make_dirichlet_marked.Given as goal
 
 abbrev pub invariant-loop-row : goal.invariant-loop-row

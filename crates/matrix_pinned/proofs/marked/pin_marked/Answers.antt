@@ -1,5 +1,4 @@
 use Rattle.matrix_pinned.specs.Marked.{pins, skips}
-use borrow.Author.Rules.{rules}
 use Rattle.matrix_pinned.proofs.marked.pin_marked.Goals as goal
 
 pub make_dirichlet-requires : goal.make_dirichlet-requires

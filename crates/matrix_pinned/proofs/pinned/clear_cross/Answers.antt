@@ -1,7 +1,6 @@
 use mathlib.Core.Path.{◌≡◌}
 use native.Mathlib.Omega.{arith}
 use Rattle.matrix_pinned.specs.Mirrors.{mirror_of, crossed_is}
-use borrow.Author.Rules.{rules}
 use Rattle.matrix_pinned.proofs.pinned.clear_cross.Goals as goal
 
 pub mirror-requires : goal.mirror-requires

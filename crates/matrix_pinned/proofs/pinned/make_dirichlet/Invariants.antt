@@ -1,10 +1,5 @@
-use mathlib.Core.Path.{◌≡◌}
-use Prim.Native.Nat.{◌+◌, ◌-◌, ◌≤◌}
-use native.Mathlib.Omega.{arith}
-use borrow.Author.Rules.{rules}
-use Rattle.matrix_shape.specs.Formed.{InRow}
-use Rattle.matrix_shape.specs.Rows.{at, row_end}
-use Rattle.matrix_pinned.specs.Mirrors.{Crossed, cross_none, cross_at, cross_more, pinned_is}
+use Prim.Native.Nat.{◌-◌, ◌≤◌}
+use Rattle.matrix_pinned.specs.Mirrors.{Crossed}
 use Rattle.matrix_pinned.proofs.pinned.make_dirichlet.Given as goal
 
 abbrev pub invariant-loop-k : goal.invariant-loop-k

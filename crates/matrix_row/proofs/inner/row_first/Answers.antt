@@ -1,5 +1,4 @@
 use mathlib.Core.Path.{ap}
-use borrow.Author.Rules.{rules}
 use Rattle.matrix_row.specs.declared.inner.Span.{Span}
 use Rattle.matrix_row.proofs.inner.row_first.Goals as goal
 

@@ -1,7 +1,6 @@
 use mathlib.Core.Path.{sym}
 use native.Mathlib.Omega.{arith}
 use lib.Seq.{length-take-le}
-use borrow.Author.Rules.{rules}
 use Rattle.matrix_row_view.proofs.front.row_col.Goals as goal
 
 pub slice_bounds-row_col-end : goal.slice_bounds-row_col-end

@@ -3,7 +3,6 @@ use mathlib.Core.Path.{sym}
 use native.Mathlib.Omega.{arith}
 use lib.ListN.{length, take}
 use lib.Seq.{length-take-le}
-use borrow.Author.Rules.{rules}
 use Rattle.matrix_row.specs.Row.{span_ok}
 use Rattle.matrix_row_view.proofs.front.row_slot.Goals as goal
 

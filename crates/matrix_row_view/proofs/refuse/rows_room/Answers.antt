@@ -1,7 +1,6 @@
 use borrow.Author.Tests.{le-leb, lt-leb}
 use Rattle.law.specs.Room.{enough}
 use Rattle.matrix_row_view.specs.Showing.{rows_room}
-use borrow.Author.Rules.{rules}
 use Rattle.matrix_row_view.proofs.refuse.rows_room.Goals as goal
 
 pub returns-then-row_offsets-n : goal.returns-then-row_offsets-n

@@ -1,5 +1,4 @@
 use native.Mathlib.Omega.{arith}
-use borrow.Author.Rules.{rules}
 use Rattle.matrix_shape.specs.Index.{index_of}
 use Rattle.matrix_shape.proofs.index.block_index.Goals as goal
 

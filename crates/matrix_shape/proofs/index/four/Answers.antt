@@ -1,6 +1,5 @@
 use native.Mathlib.Omega.{arith}
 use Rattle.matrix_shape.specs.Halving.{left, room, four_is}
-use borrow.Author.Rules.{rules}
 use Rattle.matrix_shape.proofs.index.four.Goals as goal
 
 pub two-requires : goal.two-requires

@@ -1,6 +1,5 @@
 use native.Mathlib.Omega.{arith}
 use Rattle.matrix_shape.specs.Halving.{near_is}
-use borrow.Author.Rules.{rules}
 use Rattle.matrix_shape.proofs.index.near.Goals as goal
 
 pub returns-then-size-le4 : goal.returns-then-size-le4

@@ -1,5 +1,4 @@
 use Rattle.matrix_shape.specs.Halving.{one_up, one_low}
-use borrow.Author.Rules.{rules}
 use Rattle.matrix_shape.proofs.index.one.Goals as goal
 
 pub returns-then-cols-mid : goal.returns-then-cols-mid

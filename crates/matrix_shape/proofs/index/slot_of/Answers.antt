@@ -1,5 +1,4 @@
 use mathlib.Core.Path.{◌∙◌}
-use borrow.Author.Rules.{rules}
 use Rattle.matrix_shape.specs.Search.{search_finds}
 use Rattle.matrix_shape.proofs.index.slot_of.Goals as goal
 

@@ -1,6 +1,5 @@
 use native.Mathlib.Omega.{arith}
 use Rattle.matrix_shape.specs.Halving.{left, room, two_is}
-use borrow.Author.Rules.{rules}
 use Rattle.matrix_shape.proofs.index.two.Goals as goal
 
 pub one-requires : goal.one-requires

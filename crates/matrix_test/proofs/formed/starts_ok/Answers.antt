@@ -1,4 +1,3 @@
-use borrow.Author.Rules.{rules}
 use Rattle.matrix_shape.specs.Formed.{starts_ok}
 use Rattle.matrix_test.proofs.formed.starts_ok.Goals as goal
 

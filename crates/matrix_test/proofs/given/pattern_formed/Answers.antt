@@ -1,5 +1,4 @@
 use Rattle.matrix_shape.specs.Given.{formed}
-use borrow.Author.Rules.{rules}
 use Rattle.matrix_test.proofs.given.pattern_formed.Goals as goal
 
 pub returns : goal.returns

@@ -1,5 +1,4 @@
 use Rattle.matrix_values.specs.Product.{slot_step}
-use borrow.Author.Rules.{rules}
 use Rattle.matrix_values.proofs.inner.add_slot.Goals as goal
 
 pub returns : goal.returns

@@ -1,11 +1,9 @@
 use mathlib.Core.Path.{◌≡◌, refl, ◌∙◌}
-use Prim.Native.Nat.{◌+◌, ◌*◌, ◌-◌, ◌≤◌, zero-le}
+use Prim.Native.Nat.{◌+◌, ◌*◌, ◌≤◌, zero-le}
 use native.Mathlib.Omega.{arith}
 use borrow.Author.Rules.{rules}
 use lib.ListN.{length}
-use Rattle.law.specs.Mix.{mix, mix_none, turn_stores}
-use Rattle.plane.specs.Lent.{flat}
-use Rattle.matrix_values.specs.Blocks.{zero_block}
+use Rattle.law.specs.Mix.{mix_none, turn_stores}
 use Rattle.matrix_values.proofs.inner.clear_values.Goals as goal
 
 pub loop-k-init : goal.loop-k-init

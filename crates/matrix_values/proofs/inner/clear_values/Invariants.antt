@@ -1,9 +1,7 @@
-use mathlib.Core.Path.{◌≡◌, refl, ◌∙◌}
-use Prim.Native.Nat.{◌+◌, ◌*◌, ◌-◌, ◌≤◌, zero-le}
-use native.Mathlib.Omega.{arith}
-use borrow.Author.Rules.{rules}
+use mathlib.Core.Path.{◌≡◌}
+use Prim.Native.Nat.{◌-◌, ◌≤◌}
 use lib.ListN.{length}
-use Rattle.law.specs.Mix.{mix, mix_none, turn_stores}
+use Rattle.law.specs.Mix.{mix}
 use Rattle.plane.specs.Lent.{flat}
 use Rattle.matrix_values.specs.Blocks.{zero_block}
 use Rattle.matrix_values.proofs.inner.clear_values.Given as goal

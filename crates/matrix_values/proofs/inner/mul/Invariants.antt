@@ -1,11 +1,9 @@
-use mathlib.Core.Path.{◌≡◌, refl, ◌∙◌}
-use Prim.Native.Nat.{◌+◌, ◌*◌, ◌-◌, ◌≤◌, zero-le}
-use native.Mathlib.Omega.{arith}
-use borrow.Author.Rules.{rules}
+use mathlib.Core.Path.{◌≡◌}
+use Prim.Native.Nat.{◌-◌, ◌≤◌}
 use lib.ListN.{length}
-use Rattle.law.specs.Mix.{mix, mix_none, turn_stores}
+use Rattle.law.specs.Mix.{mix}
 use Rattle.matrix_shape.specs.Rows.{at}
-use Rattle.matrix_values.specs.Product.{product_at, row_reach}
+use Rattle.matrix_values.specs.Product.{product_at}
 use Rattle.matrix_values.proofs.inner.mul.Given as goal
 
 abbrev pub invariant-loop-r : goal.invariant-loop-r

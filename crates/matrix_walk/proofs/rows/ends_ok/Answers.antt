@@ -1,10 +1,8 @@
-use mathlib.Core.Path.{◌≡◌, refl}
-use Prim.Native.Nat.{◌-◌, ◌≤◌, zero-le}
+use mathlib.Core.Path.{refl}
+use Prim.Native.Nat.{zero-le}
 use borrow.Author.Rules.{rules}
 use Rattle.law.specs.Loop.{over_none, over_turn, over_done}
 use Rattle.law.specs.Every.{every}
-use Rattle.matrix_walk.specs.Cursors.{end_ok}
-use Rattle.matrix_shape.specs.Rows.{at}
 use Rattle.matrix_walk.proofs.rows.ends_ok.Goals as goal
 
 pub loop-r-init : goal.loop-r-init

@@ -1,5 +1,4 @@
 use borrow.Author.Tests.{lt-ltb, le-ltb, le-leb, lt-leb}
-use borrow.Author.Rules.{rules}
 use Rattle.matrix_shape.specs.Formed.{home_ok}
 use Rattle.matrix_walk.proofs.rows.home_ok.Goals as goal
 

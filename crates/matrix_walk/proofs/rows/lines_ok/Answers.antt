@@ -1,15 +1,15 @@
+use mathlib.Core.Path.{ap}
+use mathlib.Core.Bool.{not}
 use mathlib.Core.Path.{◌≡◌, refl, sym, ◌∙◌}
-use mathlib.Core.Bool.{true}
-use Prim.Native.Nat.{ℕ, ◌-◌, ◌≤◌, ◌<◌, zero-le}
+use Prim.Native.Nat.{◌<◌, zero-le}
 use native.Mathlib.Omega.{arith}
 use lib.ListN.{length, length-set}
 use borrow.Author.Rules.{rules}
-use Rattle.law.specs.Every.{every, every_none}
+use Rattle.law.specs.Every.{every_none}
 use Rattle.law.specs.Truth.{passed, refused}
 use borrow.Author.Tests.{not-false}
-use Rattle.matrix_shape.specs.Rows.{at, row_end}
+use Rattle.matrix_shape.specs.Rows.{row_end}
 use Rattle.matrix_shape.specs.Phases.{ends_in}
-use Rattle.matrix_walk.specs.Cursors.{line_ok, cursor}
 use Rattle.matrix_walk.specs.Walk.{lined_not, row_no_home, row_no_pairs, row_tested, row_stands, home_is}
 use Rattle.matrix_walk.proofs.rows.lines_ok.Goals as goal
 
@@ -45,18 +45,18 @@ pub returns-then-not-home_ok : goal.returns-then-not-home_ok
 returns-then-not-home_ok c =
     lined_not _ _ _ _ _ _ (row_no_home _ _ _ _ _ c.loop-r.r c.loop-r-test.true _
     _ _ c.wide-a.ensures.same c.wide-b.ensures.same
-    c.wide-k.ensures.same (refused _ _ c.home_ok.ensures c.if-not-home_ok.true-raw))
+    c.wide-k.ensures.same (refused _ _ c.home_ok.ensures (ap not c.if-not-home_ok.true)))
 
 pub lower_ok-requires : goal.lower_ok-requires
 lower_ok-requires c =
     let l = c.loop-r-test.true in
-    let h = home_is _ _ _ _ _ (passed _ _ c.home_ok.ensures c.if-not-home_ok.false-raw) in
+    let h = home_is _ _ _ _ _ (passed _ _ c.home_ok.ensures (ap not c.if-not-home_ok.false)) in
     let e = row_end _ _ c.requires.spread.rise c.loop-r.r l in
     record {
       few = omega (
         arith,
         c.requires.count,
-        c.shared_slice_known-1.given c.args.n,
+        c.type_inv.row_offsets c.args.n,
       );
       columns = omega (arith, c.requires.count, c.requires.spread.held.columns);
       order = h.0;
@@ -70,12 +70,12 @@ returns-then-not-lower_ok c =
     (row_no_pairs _ _ _ _ _ c.loop-r.r c.loop-r-test.true _ _ _ c.wide-a.ensures.same
     c.wide-b.ensures.same
     c.wide-k.ensures.same c.loop-r.next c.loop-r.invariant.3
-    (refused _ _ c.lower_ok.ensures.tells c.if-not-lower_ok.true-raw))
+    (refused _ _ c.lower_ok.ensures.tells (ap not c.if-not-lower_ok.true)))
 
 pub overflow_cast-next : goal.overflow_cast-next
 overflow_cast-next c =
     let h = home_is _ _ _ _ _ (passed _ _ c.home_ok.ensures
-    c.if-not-home_ok.false-raw) in
+    (ap not c.if-not-home_ok.false)) in
     omega (arith, h.1, c.wide-b.ensures.small)
 
 pub bounds-next-r : goal.bounds-next-r
@@ -93,8 +93,8 @@ loop-r-preserved c =
     let p = c.lower_ok in
     let k : length p.new.next ≡ length c.args.next.now = p.auto.next ∙ c.loop-r.invariant.1 in
     let room : c.loop-r.r < length p.new.next = omega (arith, k, c.requires.cursors) in
-    let home = passed _ _ c.home_ok.ensures c.if-not-home_ok.false-raw in
-    let pairs = passed _ _ p.ensures.tells c.if-not-lower_ok.false-raw in (
+    let home = passed _ _ c.home_ok.ensures (ap not c.if-not-home_ok.false) in
+    let pairs = passed _ _ p.ensures.tells (ap not c.if-not-lower_ok.false) in (
       search rules,
       rw length-set k,
       row_tested _ _ _ _ _ c.loop-r.r l _ _ _ c.wide-a.ensures.same c.wide-b.ensures.same
@@ -103,7 +103,7 @@ loop-r-preserved c =
       row_stands _ _ _ _ _ c.loop-r.r l _ _ _ c.wide-a.ensures.same c.wide-b.ensures.same
           c.wide-k.ensures.same c.loop-r.next c.loop-r.invariant.3
           p.new.next room c.loop-r.invariant.2 home pairs
-          (p.ensures.moved (not-false _ c.if-not-lower_ok.false-raw)),
+          (p.ensures.moved (not-false _ (ap not c.if-not-lower_ok.false))),
     )
 
 pub returns : goal.returns

@@ -1,16 +1,10 @@
-use mathlib.Core.Path.{◌≡◌, refl, sym, ◌∙◌}
+use mathlib.Core.Path.{◌≡◌}
 use mathlib.Core.Bool.{true}
-use Prim.Native.Nat.{ℕ, ◌-◌, ◌≤◌, ◌<◌, zero-le}
-use native.Mathlib.Omega.{arith}
-use lib.ListN.{length, length-set}
-use borrow.Author.Rules.{rules}
-use Rattle.law.specs.Every.{every, every_none}
-use Rattle.law.specs.Truth.{passed, refused}
-use borrow.Author.Tests.{not-false}
-use Rattle.matrix_shape.specs.Rows.{at, row_end}
-use Rattle.matrix_shape.specs.Phases.{ends_in}
+use Prim.Native.Nat.{ℕ, ◌-◌, ◌≤◌, ◌<◌}
+use lib.ListN.{length}
+use Rattle.law.specs.Every.{every}
+use Rattle.matrix_shape.specs.Rows.{at}
 use Rattle.matrix_walk.specs.Cursors.{line_ok, cursor}
-use Rattle.matrix_walk.specs.Walk.{lined_not, row_no_home, row_no_pairs, row_tested, row_stands, home_is}
 use Rattle.matrix_walk.proofs.rows.lines_ok.Given as goal
 
 abbrev pub invariant-loop-r : goal.invariant-loop-r

@@ -1,11 +1,11 @@
+use mathlib.Core.Path.{ap}
+use mathlib.Core.Bool.{not}
 use mathlib.Core.Path.{◌≡◌, refl, sym}
-use Prim.Native.Nat.{◌≤◌}
 use native.Mathlib.Omega.{arith}
-use lib.ListN.{length, length-set}
+use lib.ListN.{length-set}
 use borrow.Author.Rules.{rules}
 use Rattle.law.specs.Truth.{passed, refused}
-use Rattle.matrix_shape.specs.Rows.{at}
-use Rattle.matrix_walk.specs.Walk.{Going, going_none, going_done, turn_high, turn_stops, turn_goes, meet_low, paired_not}
+use Rattle.matrix_walk.specs.Walk.{going_none, going_done, turn_high, turn_stops, turn_goes, meet_low, paired_not}
 use Rattle.matrix_walk.proofs.rows.lower_ok.Goals as goal
 
 pub loop-k-init : goal.loop-k-init
@@ -29,11 +29,11 @@ returns-then-not-meet_ok c =
     paired_not _ _ _ _ _ _ _
     (turn_stops _ _ _ _ _ _ c.loop-k.k _ c.loop-k.next c.loop-k.invariant.3 c.loop-k-test.true c.loop-k.invariant.1 _
     c.wide-q.ensures.same _ c.if-ceiling-q.false
-    c.wide-slot.ensures.same (refused _ _ c.meet_ok.ensures c.if-not-meet_ok.true-raw))
+    c.wide-slot.ensures.same (refused _ _ c.meet_ok.ensures (ap not c.if-not-meet_ok.true)))
 
 pub overflow_cast-next : goal.overflow_cast-next
 overflow_cast-next c =
-    omega (arith, c.requires.few, meet_low _ _ _ _ (passed _ _ c.meet_ok.ensures c.if-not-meet_ok.false-raw))
+    omega (arith, c.requires.few, meet_low _ _ _ _ (passed _ _ c.meet_ok.ensures (ap not c.if-not-meet_ok.false)))
 
 pub loop-k-preserved : goal.loop-k-preserved
 loop-k-preserved c = (
@@ -43,7 +43,7 @@ loop-k-preserved c = (
   turn_goes _ _ _ _ c.args.b c.args.a c.loop-k.k _ c.loop-k.next c.loop-k.invariant.3 c.loop-k-test.true
       c.loop-k.invariant.1 _ c.wide-q.ensures.same _ c.if-ceiling-q.false
       c.wide-slot.ensures.same (omega (arith, c.loop-k.invariant.2, c.requires.cursors))
-      (passed _ _ c.meet_ok.ensures c.if-not-meet_ok.false-raw),
+      (passed _ _ c.meet_ok.ensures (ap not c.if-not-meet_ok.false)),
 )
 
 pub returns : goal.returns

@@ -1,11 +1,8 @@
-use mathlib.Core.Path.{◌≡◌, refl, sym}
+use mathlib.Core.Path.{◌≡◌}
 use Prim.Native.Nat.{◌≤◌}
-use native.Mathlib.Omega.{arith}
-use lib.ListN.{length, length-set}
-use borrow.Author.Rules.{rules}
-use Rattle.law.specs.Truth.{passed, refused}
+use lib.ListN.{length}
 use Rattle.matrix_shape.specs.Rows.{at}
-use Rattle.matrix_walk.specs.Walk.{Going, going_none, going_done, turn_high, turn_stops, turn_goes, meet_low, paired_not}
+use Rattle.matrix_walk.specs.Walk.{Going}
 use Rattle.matrix_walk.proofs.rows.lower_ok.Given as goal
 
 abbrev pub invariant-loop-k : goal.invariant-loop-k

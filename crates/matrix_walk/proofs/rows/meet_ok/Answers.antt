@@ -1,5 +1,4 @@
 use borrow.Author.Tests.{lt-ltb, le-ltb}
-use borrow.Author.Rules.{rules}
 use Rattle.matrix_walk.specs.Cursors.{meet_ok}
 use Rattle.matrix_walk.proofs.rows.meet_ok.Goals as goal
 
