@@ -1,5 +1,5 @@
 // The step's factor; the step solve and the response, each counted in the tally that the caller lends (rules, modules 6 and 7). THE DOORS of the
-// latter two are thin functions, walks by hand over the covered calls.
+// latter two are thin functions over the calls by value.
 #![tactic(auto)]
 
 ghost use Rattle.law.specs.Promise.{Promise, Counted};

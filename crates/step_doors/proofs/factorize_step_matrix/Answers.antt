@@ -1,7 +1,6 @@
-use mathlib.Core.Path.{sym, ◌∙◌, refl}
+use mathlib.Core.Path.{sym, ◌∙◌}
 use Rattle.law.specs.Promise.{refuses, accepts}
 use Rattle.step_solve.specs.Marking.{door, ready}
-use borrow.Author.Rules.{rules}
 use Rattle.step_doors.proofs.factorize_step_matrix.Goals as goal
 
 pub returns-then-no-ne0 : goal.returns-then-no-ne0
