@@ -1,4 +1,3 @@
-use borrow.Author.Rules.{rules}
 use Rattle.abi_calls.proofs.bracket_times.Goals as goal
 
 pub returns : goal.returns

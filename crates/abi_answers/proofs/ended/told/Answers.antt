@@ -1,4 +1,3 @@
-use borrow.Author.Rules.{rules}
 use Rattle.abi_answers.proofs.ended.told.Goals as goal
 
 pub returns-in-Zero : goal.returns-in-Zero

@@ -1,5 +1,4 @@
 use mathlib.Core.Path.{refl}
-use borrow.Author.Rules.{rules}
 use Rattle.abi_answers.specs.Numbers.{told}
 use Rattle.abi_calls.proofs.conjugate.bracket_conjugate_gradient.Goals as goal
 

@@ -1,6 +1,5 @@
 use mathlib.Core.Path.{refl}
 use Rattle.abi_answers.specs.Numbers.{numbered}
-use borrow.Author.Rules.{rules}
 use Rattle.abi_calls.proofs.plan.bracket_plan.Goals as goal
 
 pub returns : goal.returns

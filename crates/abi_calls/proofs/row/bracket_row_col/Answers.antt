@@ -1,6 +1,5 @@
 use mathlib.Core.Path.{refl}
 use Rattle.abi_answers.specs.Numbers.{told}
-use borrow.Author.Rules.{rules}
 use Rattle.abi_calls.proofs.row.bracket_row_col.Goals as goal
 
 pub returns : goal.returns

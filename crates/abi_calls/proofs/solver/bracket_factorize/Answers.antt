@@ -1,7 +1,6 @@
 use mathlib.Core.Path.{refl}
 use Rattle.abi_answers.specs.Numbers.{told}
 use Rattle.abi_answers.specs.Telling.{same_factor}
-use borrow.Author.Rules.{rules}
 use Rattle.abi_calls.proofs.solver.bracket_factorize.Goals as goal
 
 pub returns : goal.returns

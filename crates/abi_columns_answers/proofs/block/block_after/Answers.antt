@@ -1,4 +1,3 @@
-use borrow.Author.Rules.{rules}
 use Rattle.abi_columns_answers.proofs.block.block_after.Goals as goal
 
 pub returns-in-NotLoaded : goal.returns-in-NotLoaded

@@ -1,4 +1,3 @@
-use borrow.Author.Rules.{rules}
 use Rattle.abi_columns_answers.proofs.computed.ended_after.Goals as goal
 
 pub returns-in-Ended : goal.returns-in-Ended

@@ -1,7 +1,6 @@
 use mathlib.Core.Path.{refl}
 use Rattle.abi_answers.specs.Numbers.{told}
 use Rattle.abi_columns_answers.specs.Computes.{same_numbers}
-use borrow.Author.Rules.{rules}
 use Rattle.abi_columns_calls.proofs.computing.bracket_compute_columns.Goals as goal
 
 pub returns : goal.returns

@@ -1,6 +1,5 @@
 use mathlib.Core.Path.{refl}
 use Rattle.abi_answers.specs.Numbers.{told}
-use borrow.Author.Rules.{rules}
 use Rattle.abi_columns_calls.proofs.loading.bracket_clear_columns.Goals as goal
 
 pub returns : goal.returns

@@ -1,4 +1,3 @@
-use borrow.Author.Rules.{rules}
 use Rattle.abi_step_answers.proofs.counts.counted.Goals as goal
 
 pub returns : goal.returns

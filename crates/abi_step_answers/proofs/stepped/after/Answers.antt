@@ -1,4 +1,3 @@
-use borrow.Author.Rules.{rules}
 use Rattle.abi_step_answers.proofs.stepped.after.Goals as goal
 
 pub returns-in-Refused : goal.returns-in-Refused

@@ -2,7 +2,6 @@ use mathlib.Core.Path.{refl}
 use Rattle.step_counts.specs.Counting.{asked_by}
 use Rattle.abi_step_answers.specs.Counts.{tallied}
 use Rattle.abi_step_answers.specs.Responses.{same_gained}
-use borrow.Author.Rules.{rules}
 use Rattle.abi_step_calls.proofs.responding.bracket_response_into.Goals as goal
 
 pub returns : goal.returns

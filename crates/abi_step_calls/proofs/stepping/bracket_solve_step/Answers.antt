@@ -1,7 +1,6 @@
 use mathlib.Core.Path.{refl}
 use Rattle.step_counts.specs.Counting.{asked_of}
 use Rattle.abi_step_answers.specs.Counts.{tallied}
-use borrow.Author.Rules.{rules}
 use Rattle.abi_step_calls.proofs.stepping.bracket_solve_step.Goals as goal
 
 pub returns : goal.returns

@@ -1,4 +1,3 @@
-use borrow.Author.Rules.{rules}
 use Rattle.abi_timing.proofs.columns.inside_compute_columns.Goals as goal
 
 pub compute-made-requires : goal.compute-made-requires
