@@ -2,7 +2,6 @@ use Prim.Native.Nat.{ℕ}
 use mathlib.Core.Path.{refl, ap, ◌∙◌}
 use lib.ListN.{replicate}
 use Rattle.order_make.proofs.Whole.{rows_rise, place_asks, order_is}
-use borrow.Author.Rules.{rules}
 use Rattle.order_make.proofs.inner.reverse_cuthill_mckee.Goals as goal
 
 pub fill_degrees-requires : goal.fill_degrees-requires

@@ -1,13 +1,12 @@
-use Prim.Native.Nat.{ℕ, suc, ◌+◌, ◌-◌, ◌≤◌, ◌<◌}
+use Prim.Native.Nat.{ℕ, suc, ◌+◌, ◌≤◌, ◌<◌}
 use native.Mathlib.Numerals.{add-one}
 use native.Mathlib.Omega.{arith}
 use mathlib.Core.Path.{◌≡◌, sym, ap, ◌∙◌}
 use mathlib.Core.List.{List, ◌++◌}
-use mathlib.Core.Bool.{Bool, true, false}
+use mathlib.Core.Bool.{Bool, true}
 use lib.ListN.{length, get_or, take, drop}
-use borrow.Author.Rules.{rules}
 use Rattle.order_definition.specs.Marks.{open_of}
-use Rattle.order_definition.proofs.Filling.{open_to, wanted, open_to_all, Appended, append_none, append_yes, append_no, append_room}
+use Rattle.order_definition.proofs.Filling.{open_to, wanted, open_to_all, append_none, append_yes, append_no, append_room}
 use Rattle.order_make.proofs.place.append_open.Goals as goal
 use Rattle.order_make.proofs.place.append_open.Goals.{then-is_wanted, else-is_wanted}
 

@@ -1,14 +1,7 @@
-use Prim.Native.Nat.{ℕ, suc, ◌+◌, ◌-◌, ◌≤◌, ◌<◌}
-use native.Mathlib.Numerals.{add-one}
-use native.Mathlib.Omega.{arith}
-use mathlib.Core.Logic.{⊎_elim}
-use mathlib.Core.Path.{◌≡◌, sym, ap, ◌∙◌}
-use mathlib.Core.List.{List, ◌++◌}
-use mathlib.Core.Bool.{true}
-use lib.ListN.{length, get_or, take, drop}
-use borrow.Author.Rules.{rules}
-use Rattle.order_definition.specs.Marks.{open_of}
-use Rattle.order_definition.proofs.Filling.{open_to, wanted, open_to_all, Appended, append_none, append_yes, append_no, append_room}
+use Prim.Native.Nat.{suc, ◌-◌, ◌≤◌}
+use mathlib.Core.Path.{◌≡◌}
+use lib.ListN.{get_or}
+use Rattle.order_definition.proofs.Filling.{Appended}
 use Rattle.order_make.proofs.place.append_open.Given as goal
 
 abbrev pub invariant-loop-k : goal.invariant-loop-k

@@ -1,6 +1,5 @@
 use native.Mathlib.Omega.{arith}
 use lib.ListN.{length, take}
-use borrow.Author.Rules.{rules}
 use Rattle.order_definition.proofs.Visiting.{below_in}
 use Rattle.order_make.proofs.Standing.{stay, some_free, start_below, begin}
 use Rattle.order_make.proofs.place.open_stretch.Goals as goal

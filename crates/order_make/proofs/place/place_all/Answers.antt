@@ -1,9 +1,8 @@
-use Prim.Native.Nat.{ℕ, ◌-◌, ◌≤◌, ◌<◌}
+use Prim.Native.Nat.{ℕ, ◌<◌}
 use native.Mathlib.Numerals.{add-one}
 use native.Mathlib.Omega.{arith}
 use mathlib.Core.Path.{◌≡◌, refl, sym, ◌∙◌, subst}
 use lib.ListN.{length}
-use borrow.Author.Rules.{rules}
 use Rattle.order_definition.specs.Order.{neighbours, start_after, fresh, placing}
 use Rattle.order_definition.specs.Keys.{Below}
 use Rattle.order_definition.specs.Marks.{Stands}

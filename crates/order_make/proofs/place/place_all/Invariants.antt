@@ -1,14 +1,8 @@
-use Prim.Native.Nat.{ℕ, ◌-◌, ◌≤◌, ◌<◌}
-use native.Mathlib.Numerals.{add-one}
-use native.Mathlib.Omega.{arith}
-use mathlib.Core.Path.{◌≡◌, refl, sym, ◌∙◌, subst}
+use Prim.Native.Nat.{◌-◌, ◌≤◌}
+use mathlib.Core.Path.{◌≡◌}
 use lib.ListN.{length}
-use borrow.Author.Rules.{rules}
 use Rattle.order_definition.specs.Order.{neighbours, start_after, fresh, placing}
-use Rattle.order_definition.specs.Keys.{Below}
 use Rattle.order_definition.specs.Marks.{Stands}
-use Rattle.order_search.proofs.Exploring.{rows_at, cols_below}
-use Rattle.order_make.proofs.Standing.{none_stand, open_asks, open_gives, who_below, room, visited_stands, whole}
 use Rattle.order_make.proofs.place.place_all.Given as goal
 
 abbrev pub invariant-loop-h : goal.invariant-loop-h

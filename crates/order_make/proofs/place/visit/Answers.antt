@@ -1,5 +1,4 @@
 use lib.ListN.{length}
-use borrow.Author.Rules.{rules}
 use Rattle.order_definition.proofs.Visiting.{sort_below, put, mark_below, done}
 use Rattle.order_make.proofs.place.visit.Goals as goal
 
