@@ -6,4 +6,4 @@ use borrow.Author.Rules.{rules}
 use Rattle.spy.proofs.output.draw.Given as goal
 
 abbrev pub invariant-loop-i : goal.invariant-loop-i
-invariant-loop-i l = (l.i ≤ l.i-end) × (length l.line ≡ length l.initial.line)
+invariant-loop-i g l = (l.i ≤ l.i-end) × (length l.line ≡ length l.initial.line)
