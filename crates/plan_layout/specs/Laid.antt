@@ -3,7 +3,7 @@ use Rattle.std.specs.Prelude.{ℕ, ◌+◌, ◌*◌, ◌≤◌, ◌<◌, ◌≡�
 use Rattle.std.proofs.Math.Path.{sym, ap}
 use Rattle.std.proofs.Common.{◌∙◌, arith, add-one}
 use mathlib.Core.List.{List}
-use Rattle.law.specs.Loop.{over, over_same}
+use Rattle.law.specs.Loop.{over_same}
 use Rattle.law.specs.Gather.{table, length_table, table_at}
 use Rattle.law.specs.Store.{written, table_turn}
 use Rattle.law.specs.Limit.{particles}

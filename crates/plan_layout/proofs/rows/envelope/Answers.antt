@@ -1,11 +1,10 @@
 use borrow.Author.Rules.{rules}
 use mathlib.Core.Path.{◌≡◌, sym, ap, ◌∙◌}
-use Prim.Native.Nat.{ℕ, ◌+◌, ◌*◌, ◌-◌, ◌≤◌, zero-le}
+use Prim.Native.Nat.{ℕ, ◌+◌, ◌*◌, ◌-◌, zero-le}
 use native.Mathlib.Omega.{arith}
 use lib.ListN.{length}
-use Rattle.order_definition.specs.Envelope.{first_col}
 use Rattle.plan_layout.specs.Leftmost.{first_even, first_odd}
-use Rattle.plan_layout.specs.Starts.{start_at, start_none, start_two}
+use Rattle.plan_layout.specs.Starts.{start_none, start_two}
 use Rattle.plan_layout.proofs.rows.envelope.Goals as goal
 
 pub loop-i-init : goal.loop-i-init

@@ -1,11 +1,7 @@
-use borrow.Author.Rules.{rules}
-use mathlib.Core.Path.{◌≡◌, sym, ap, ◌∙◌}
-use Prim.Native.Nat.{ℕ, ◌+◌, ◌*◌, ◌-◌, ◌≤◌, zero-le}
-use native.Mathlib.Omega.{arith}
-use lib.ListN.{length}
+use mathlib.Core.Path.{◌≡◌}
+use Prim.Native.Nat.{◌*◌, ◌≤◌}
 use Rattle.order_definition.specs.Envelope.{first_col}
-use Rattle.plan_layout.specs.Leftmost.{first_even, first_odd}
-use Rattle.plan_layout.specs.Starts.{start_at, start_none, start_two}
+use Rattle.plan_layout.specs.Starts.{start_at}
 use Rattle.plan_layout.proofs.rows.envelope.Given as goal
 
 abbrev pub invariant-loop-i : goal.invariant-loop-i

@@ -1,12 +1,9 @@
-use borrow.Author.Rules.{rules}
-use mathlib.Core.Path.{◌≡◌, refl, ap, ◌∙◌}
-use Prim.Native.Nat.{ℕ, ◌*◌, ◌-◌, ◌≤◌, zero-le}
-use native.Mathlib.Omega.{arith}
-use lib.ListN.{length, length-set}
-use Rattle.law.specs.Gather.{table, length_table}
-use Rattle.law.specs.Store.{written, write_none, written_whole}
+use mathlib.Core.Path.{◌≡◌}
+use Prim.Native.Nat.{◌*◌, ◌≤◌}
+use lib.ListN.{length}
+use Rattle.law.specs.Gather.{table}
+use Rattle.law.specs.Store.{written}
 use Rattle.order_definition.specs.Envelope.{first_col}
-use Rattle.plan_layout.specs.Laid.{firsts_put}
 use Rattle.plan_layout.proofs.rows.fill_first.Given as goal
 
 abbrev pub invariant-loop-i : goal.invariant-loop-i

@@ -1,10 +1,10 @@
 use borrow.Author.Rules.{rules}
 use mathlib.Core.Path.{◌≡◌, refl, sym, ap, ◌∙◌}
-use Prim.Native.Nat.{ℕ, ◌+◌, ◌*◌, ◌-◌, ◌≤◌, zero-le}
+use Prim.Native.Nat.{ℕ, ◌+◌, ◌-◌, zero-le}
 use native.Mathlib.Omega.{arith}
 use lib.ListN.{length, length-set}
-use Rattle.law.specs.Gather.{table, length_table}
-use Rattle.law.specs.Store.{written, write_none, written_whole, table_turn}
+use Rattle.law.specs.Gather.{length_table}
+use Rattle.law.specs.Store.{write_none, written_whole, table_turn}
 use Rattle.matrix_shape.specs.Rows.{at}
 use Rattle.plan_layout.specs.Starts.{start_at, start_none, start_more}
 use Rattle.plan_layout.proofs.rows.fill_starts.Goals as goal

@@ -1,12 +1,10 @@
-use borrow.Author.Rules.{rules}
-use mathlib.Core.Path.{◌≡◌, refl, sym, ap, ◌∙◌}
-use Prim.Native.Nat.{ℕ, ◌+◌, ◌*◌, ◌-◌, ◌≤◌, zero-le}
-use native.Mathlib.Omega.{arith}
-use lib.ListN.{length, length-set}
-use Rattle.law.specs.Gather.{table, length_table}
-use Rattle.law.specs.Store.{written, write_none, written_whole, table_turn}
+use mathlib.Core.Path.{◌≡◌}
+use Prim.Native.Nat.{◌*◌, ◌≤◌}
+use lib.ListN.{length}
+use Rattle.law.specs.Gather.{table}
+use Rattle.law.specs.Store.{written}
 use Rattle.matrix_shape.specs.Rows.{at}
-use Rattle.plan_layout.specs.Starts.{start_at, start_none, start_more}
+use Rattle.plan_layout.specs.Starts.{start_at}
 use Rattle.plan_layout.proofs.rows.fill_starts.Given as goal
 
 abbrev pub invariant-loop-r : goal.invariant-loop-r

@@ -1,5 +1,4 @@
 use Rattle.plan_layout.specs.Laid.{laid_walk, laid_started}
-use borrow.Author.Rules.{rules}
 use Rattle.plan_layout.proofs.rows.first_block.Goals as goal
 
 pub bounds-order-i : goal.bounds-order-i

@@ -1,11 +1,8 @@
-use borrow.Author.Rules.{rules}
 use mathlib.Core.Path.{◌≡◌}
 use Prim.Native.Nat.{◌-◌, ◌≤◌}
-use native.Mathlib.Omega.{arith}
-use Rattle.law.specs.Loop.{over, over_none, over_turn, over_done}
+use Rattle.law.specs.Loop.{over}
 use Rattle.matrix_shape.specs.Rows.{at}
 use Rattle.order_definition.specs.Envelope.{lesser}
-use Rattle.plan_layout.specs.Leftmost.{walked}
 use Rattle.plan_layout.proofs.rows.leftmost.Given as goal
 
 abbrev pub invariant-loop-k : goal.invariant-loop-k

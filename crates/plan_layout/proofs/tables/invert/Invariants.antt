@@ -1,10 +1,7 @@
-use borrow.Author.Rules.{rules}
-use mathlib.Core.Path.{◌≡◌, refl}
-use Prim.Native.Nat.{ℕ, ◌-◌, ◌≤◌, ◌<◌, zero-le}
-use native.Mathlib.Omega.{arith}
-use lib.ListN.{length, length-set}
+use mathlib.Core.Path.{◌≡◌}
+use Prim.Native.Nat.{ℕ, ◌≤◌, ◌<◌}
+use lib.ListN.{length}
 use Rattle.matrix_shape.specs.Rows.{at}
-use Rattle.plan_layout.specs.EachOnce.{place_put, places_are}
 use Rattle.plan_layout.proofs.tables.invert.Given as goal
 
 abbrev pub invariant-loop-i : goal.invariant-loop-i
