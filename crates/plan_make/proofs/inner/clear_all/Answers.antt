@@ -1,5 +1,4 @@
 use Rattle.plan_make.specs.Parts.{zeros_are}
-use borrow.Author.Rules.{rules}
 use Rattle.plan_make.proofs.inner.clear_all.Goals as goal
 
 pub returns : goal.returns

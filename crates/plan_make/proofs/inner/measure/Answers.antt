@@ -1,7 +1,6 @@
 use mathlib.Core.Path.{◌∙◌}
 use native.Mathlib.Omega.{arith}
 use Rattle.plan_make.specs.Parts.{order_listed, order_laid, order_measured}
-use borrow.Author.Rules.{rules}
 use Rattle.plan_make.proofs.inner.measure.Goals as goal
 
 pub reverse_cuthill_mckee-requires : goal.reverse_cuthill_mckee-requires

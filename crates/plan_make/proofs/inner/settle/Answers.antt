@@ -2,7 +2,6 @@ use mathlib.Core.Path.{◌∙◌}
 use native.Mathlib.Omega.{arith}
 use Rattle.plan_layout.specs.Laid.{laid_long}
 use Rattle.plan_make.specs.Parts.{too_long, firsts_most, laid_out}
-use borrow.Author.Rules.{rules}
 use Rattle.plan_make.proofs.inner.settle.Goals as goal
 
 pub returns-then-len-gt-ENVELOPE : goal.returns-then-len-gt-ENVELOPE
