@@ -1,7 +1,6 @@
 -- The starred readings of plans (RULES.md § 11), computed: the whole plan of one particle and of the chain of three, the envelope's length of the others.
-use Prim.Native.Nat.{ℕ}
 use mathlib.Core.Path.{◌≡◌, refl}
-use mathlib.Core.List.{List, [], ◌∷◌}
+use mathlib.Core.List.{[], ◌∷◌}
 use Rattle.law.specs.Loop.{fold, over}
 use Rattle.law.specs.Gather.{gather}
 use Rattle.order_definition.specs.Order.{neighbours, reach, settle, choose_start, fresh, placing, order_of}

@@ -1,7 +1,7 @@
 -- WHAT PLANNING MAKES PASSES THE FIT TEST: the plan of every well formed pattern fits it.
 use Rattle.std.specs.Prelude.{ℕ, List}
 use Rattle.matrix_shape.specs.Rows.{at, Pattern}
-use Rattle.plan_fits.specs.Fits.{PlanRules, Fits}
+use Rattle.plan_fits.specs.Fits.{Fits}
 use Rattle.plan_doors.specs.Facts as facts
 use Rattle.plan_doors.specs.Facts.{plan_in}
 

@@ -3,7 +3,6 @@ use Rattle.law.specs.Refusal.{goes_on, stops, ends}
 use mathlib.Core.Path.{sym, ◌∙◌}
 use Rattle.matrix_shape.specs.Given.{held}
 use Rattle.plan_doors.specs.Planning.{early}
-use borrow.Author.Rules.{rules}
 use Rattle.plan_doors.proofs.refuse.planning.Goals as goal
 
 pub returns-then-n-gt-PARTICLES : goal.returns-then-n-gt-PARTICLES

@@ -1,7 +1,6 @@
 use mathlib.Core.Path.{refl}
 use Rattle.law.specs.Room.{enough}
 use Rattle.plan_doors.specs.Planning.{planning_room}
-use borrow.Author.Rules.{rules}
 use Rattle.plan_doors.proofs.refuse.planning_room.Goals as goal
 
 pub returns : goal.returns
