@@ -6,7 +6,7 @@ use Rattle.law.specs.Number.{bad_text}
 use Rattle.law.specs.Limit.{particles, pairs as pairLimit}
 use Rattle.law.specs.Promise.{Promise}
 use Rattle.law.specs.Refusal.{Test, verdict}
-use Rattle.bench_text.specs.Text.{described, particle_count, pair_count, pair_numbers}
+use Rattle.bench_text.specs.Text.{described, particle_count, pair_count}
 use Rattle.bench_text.specs.Nine.{limits, number_by, refused_by, is_described}
 use Rattle.bench_text.specs.Reading as reading
 use Rattle.bench_text.specs.declared.inner.Input.{Input}

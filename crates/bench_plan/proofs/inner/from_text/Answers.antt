@@ -2,7 +2,6 @@ use mathlib.Core.Path.{sym}
 use native.Mathlib.Omega.{arith}
 use lib.Seq.{length-take-le}
 use Rattle.bench_plan.specs.Read.{read_refused, read_well, read_counted, read_planned}
-use borrow.Author.Rules.{rules}
 use Rattle.bench_plan.proofs.inner.from_text.Goals as goal
 
 pub overflow_mul-m : goal.overflow_mul-m
