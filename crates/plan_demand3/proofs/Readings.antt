@@ -23,7 +23,7 @@ use Rattle.order_definition.specs.Envelope.{first_block, first_col, row_starts}
 use Rattle.order_demand3.specs.Demand.{Demand3}
 use Rattle.plan_make.specs.Plan.{Plan, four, plan_by, plan_of, envelope_length}
 use Rattle.plan_make.specs.Parts.{Work, five}
-use Rattle.plan_doors.specs.Planning.{In, Out, left, planning_room, early, refusals, length_for, laid_over, cleared, work, door}
+use Rattle.plan_doors.specs.Planning.{Out, left, planning_room, early, refusals, length_for, laid_over, cleared, work, door}
 use Rattle.plan_doors.specs.declared.Planned.TheVariants.{Done}
 use Rattle.plan_demand3.specs.Built.{handed}
 use Rattle.plan_demand3.proofs.Whole.{of_pattern_from_pairs}

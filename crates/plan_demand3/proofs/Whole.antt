@@ -10,7 +10,7 @@ use Rattle.matrix_building.specs.Building as building
 use Rattle.order_demand3.proofs.Carried.{demand_carried}
 use Rattle.plan_make.specs.Plan.{Plan}
 use Rattle.plan_make.specs.Parts.{Work}
-use Rattle.plan_doors.specs.Planning.{In, Out, planning_room, length_for, door}
+use Rattle.plan_doors.specs.Planning.{Out, planning_room, length_for, door}
 use Rattle.plan_demand3.specs.Door.{NoParticleDropsOut, AnsweredExactly}
 use Rattle.plan_demand3.specs.Built.{handed, OfPairs, OfPatternFromPairs, OfFromPairs}
 use Rattle.plan_demand3.proofs.Answers.{one_length, accepted, works, answers, too_long}
