@@ -37,8 +37,8 @@ floats l = map (of_bits binary32) l
 
 -- the seven counts: direct, Zero, Near, Converged, Curvature, Limit, refused
 counts : ℕ → ℕ → ℕ → ℕ → ℕ → ℕ → ℕ → Tally
-counts direct zero near converged curvature limit refused =
-    record { direct = direct; zero = zero; near = near; converged = converged; curvature = curvature; limit = limit; refused = refused }
+counts direct none near converged curvature limit refused =
+    record { direct = direct; zero = none; near = near; converged = converged; curvature = curvature; limit = limit; refused = refused }
 
 -- the record after a step solve: the block and the preconditioner, b, the mark, the tolerance and the limit are given
 step : Tally → List ℕ → List ℕ → Bool → ℕ → ℕ → Tally

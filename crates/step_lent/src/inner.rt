@@ -1,4 +1,4 @@
-// The two calls are thin functions, walked by hand: a function that lends a record is none of the prover's own walk.
+// The two calls are thin functions over the doors: each lends a record of its own.
 ghost use Rattle.std.specs.Prelude.{◌≡◌};
 ghost use Rattle.law.specs.Promise.{Counted};
 ghost use Rattle.step_solve.specs.Stepping as stepping;
