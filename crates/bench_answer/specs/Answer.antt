@@ -1,7 +1,6 @@
 -- THE BENCH PROGRAM'S WHOLE OUTPUT FOR A TEXT: what is printed of its pairs, or the line of a refusal.
-use Rattle.std.specs.Prelude.{ℕ, ◌≡◌, refl, Bool, true, false, cond, List, leb}
+use Rattle.std.specs.Prelude.{ℕ, ◌≡◌, refl, Bool, true, false, cond, List}
 use Rattle.law.specs.Number.{bad_text}
-use Rattle.law.specs.Limit.{particles}
 use Rattle.law.specs.Promise.{by, outcome}
 use Rattle.law.specs.Refusal.{verdict}
 use Rattle.bench_text.specs.Text.{described, particle_count, pair_count, pair_numbers}

@@ -1,7 +1,7 @@
 -- FROM A CALL'S ANSWER TO WHAT IS PRINTED, in a room for any text's lines.
 use Prim.Native.Nat.{ℕ, zero, suc, ◌≤◌, ◌<◌}
 use Rattle.std.proofs.Math.Path.{◌≡◌, sym, ap}
-use Rattle.std.specs.Prelude.{refl, Bool, true, false, List, ◌++◌, leb, take}
+use Rattle.std.specs.Prelude.{refl, Bool, true, false, List, ◌++◌, leb}
 use Rattle.std.proofs.Common.{◌∙◌, arith, length-take-le, leb-true}
 use Rattle.std.proofs.Math.Bool.{cond}
 use Rattle.std.proofs.Math.Logic.{⊎_elim}
