@@ -1,3 +1,5 @@
+use mathlib.Core.Path.{ap}
+use mathlib.Core.Bool.{not}
 use borrow.Author.Tests.{le-leb, lt-leb}
 use Rattle.law.specs.Refusal.{goes_on, stops, ends}
 use Rattle.law.specs.Truth.{refused, passed}
@@ -14,36 +16,36 @@ pub returns-then-not-pattern_room : goal.returns-then-not-pattern_room
 unfolding refusals
 returns-then-not-pattern_room c =
     goes_on _ _ _ _ (le-leb _ _ c.if-n-gt-PARTICLES.false)
-    (stops _ _ _ (refused _ _ c.pattern_room.ensures c.if-not-pattern_room.true-raw))
+    (stops _ _ _ (refused _ _ c.pattern_room.ensures (ap not c.if-not-pattern_room.true)))
 
 pub inverses_room-requires : goal.inverses_room-requires
 inverses_room-requires c =
-    (c.if-n-gt-PARTICLES.false, (held _ _ _ _ (passed _ _ c.pattern_room.ensures c.if-not-pattern_room.false-raw)).places)
+    (c.if-n-gt-PARTICLES.false, (held _ _ _ _ (passed _ _ c.pattern_room.ensures (ap not c.if-not-pattern_room.false))).places)
 
 pub returns-then-not-inverses_room : goal.returns-then-not-inverses_room
 unfolding refusals
 returns-then-not-inverses_room c =
     goes_on _ _ _ _ (le-leb _ _ c.if-n-gt-PARTICLES.false)
-    (goes_on _ _ _ _ (passed _ _ c.pattern_room.ensures c.if-not-pattern_room.false-raw)
-    (stops _ _ _ (refused _ _ c.inverses_room.ensures c.if-not-inverses_room.true-raw)))
+    (goes_on _ _ _ _ (passed _ _ c.pattern_room.ensures (ap not c.if-not-pattern_room.false))
+    (stops _ _ _ (refused _ _ c.inverses_room.ensures (ap not c.if-not-inverses_room.true))))
 
 pub pattern_formed-requires : goal.pattern_formed-requires
 pattern_formed-requires c =
-    (c.if-n-gt-PARTICLES.false, held _ _ _ _ (passed _ _ c.pattern_room.ensures c.if-not-pattern_room.false-raw))
+    (c.if-n-gt-PARTICLES.false, held _ _ _ _ (passed _ _ c.pattern_room.ensures (ap not c.if-not-pattern_room.false)))
 
 pub returns-then-not-pattern_formed : goal.returns-then-not-pattern_formed
 unfolding refusals
 returns-then-not-pattern_formed c =
     goes_on _ _ _ _ (le-leb _ _ c.if-n-gt-PARTICLES.false)
-    (goes_on _ _ _ _ (passed _ _ c.pattern_room.ensures c.if-not-pattern_room.false-raw)
-    (goes_on _ _ _ _ (passed _ _ c.inverses_room.ensures c.if-not-inverses_room.false-raw)
-    (stops _ _ _ (refused _ _ c.pattern_formed.ensures c.if-not-pattern_formed.true-raw))))
+    (goes_on _ _ _ _ (passed _ _ c.pattern_room.ensures (ap not c.if-not-pattern_room.false))
+    (goes_on _ _ _ _ (passed _ _ c.inverses_room.ensures (ap not c.if-not-inverses_room.false))
+    (stops _ _ _ (refused _ _ c.pattern_formed.ensures (ap not c.if-not-pattern_formed.true)))))
 
 pub returns : goal.returns
 unfolding refusals
 returns c =
     goes_on _ _ _ _ (le-leb _ _ c.if-n-gt-PARTICLES.false)
-    (goes_on _ _ _ _ (passed _ _ c.pattern_room.ensures c.if-not-pattern_room.false-raw)
-    (goes_on _ _ _ _ (passed _ _ c.inverses_room.ensures c.if-not-inverses_room.false-raw)
-    (goes_on _ _ _ _ (passed _ _ c.pattern_formed.ensures c.if-not-pattern_formed.false-raw)
+    (goes_on _ _ _ _ (passed _ _ c.pattern_room.ensures (ap not c.if-not-pattern_room.false))
+    (goes_on _ _ _ _ (passed _ _ c.inverses_room.ensures (ap not c.if-not-inverses_room.false))
+    (goes_on _ _ _ _ (passed _ _ c.pattern_formed.ensures (ap not c.if-not-pattern_formed.false))
     ends)))
