@@ -1,10 +1,8 @@
-use mathlib.Core.Path.{◌≡◌, refl, ◌∙◌}
-use mathlib.Core.Bool.{false}
-use Prim.Native.Nat.{◌-◌, ◌≤◌, zero-le}
+use mathlib.Core.Path.{refl, ◌∙◌}
+use Prim.Native.Nat.{zero-le}
 use native.Mathlib.Omega.{arith}
-use lib.ListN.{length}
-use Rattle.law.specs.Loop.{over, over_none, over_turn, over_done, over_stays}
-use Rattle.columns_combine.specs.Summed.{sum_of, and_then, entry_added, summed}
+use Rattle.law.specs.Loop.{over_none, over_turn, over_done, over_stays}
+use Rattle.columns_combine.specs.Summed.{summed}
 use borrow.Author.Rules.{rules}
 use Rattle.columns_combine.proofs.combine.add_all.Goals as goal
 
@@ -23,12 +21,11 @@ returns-then-add_entry c =
     (omega (arith, c.loop-e-test.true))
 
 pub loop-e-preserved : goal.loop-e-preserved
-loop-e-preserved c =
-    (
-      search rules,
-      over_turn _ 0 _ _ _ _ zero-le c.loop-e.invariant.1 (rw (← c.if-add_entry.false) c.add_entry.ensures),
-      c.add_entry.auto.out ∙ c.loop-e.invariant.2,
-    )
+loop-e-preserved c = (
+  search rules,
+  over_turn _ 0 _ _ _ _ zero-le c.loop-e.invariant.1 (rw (← c.if-add_entry.false) c.add_entry.ensures),
+  c.add_entry.auto.out ∙ c.loop-e.invariant.2,
+)
 
 pub returns : goal.returns
 unfolding summed

@@ -1,11 +1,9 @@
-use mathlib.Core.Path.{◌≡◌, refl, ◌∙◌}
+use mathlib.Core.Path.{◌≡◌}
 use mathlib.Core.Bool.{false}
-use Prim.Native.Nat.{◌-◌, ◌≤◌, zero-le}
-use native.Mathlib.Omega.{arith}
+use Prim.Native.Nat.{◌-◌, ◌≤◌}
 use lib.ListN.{length}
-use Rattle.law.specs.Loop.{over, over_none, over_turn, over_done, over_stays}
-use Rattle.columns_combine.specs.Summed.{sum_of, and_then, entry_added, summed}
-use borrow.Author.Rules.{rules}
+use Rattle.law.specs.Loop.{over}
+use Rattle.columns_combine.specs.Summed.{sum_of, and_then, entry_added}
 use Rattle.columns_combine.proofs.combine.add_all.Given as goal
 
 abbrev pub invariant-loop-e : goal.invariant-loop-e

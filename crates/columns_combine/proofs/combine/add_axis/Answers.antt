@@ -1,7 +1,6 @@
 use native.Mathlib.Omega.{arith}
 use Rattle.columns_combine.specs.Readable.{column_long}
 use Rattle.columns_combine.specs.Summed.{axis_skipped, axis_missing, axis_taken}
-use borrow.Author.Rules.{rules}
 use Rattle.columns_combine.proofs.combine.add_axis.Goals as goal
 
 pub returns-then-weight : goal.returns-then-weight

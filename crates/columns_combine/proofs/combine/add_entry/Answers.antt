@@ -1,6 +1,5 @@
 use native.Mathlib.Omega.{arith}
 use Rattle.columns_combine.specs.Summed.{entry_skipped, entry_missing, entry_taken}
-use borrow.Author.Rules.{rules}
 use Rattle.columns_combine.proofs.combine.add_entry.Goals as goal
 
 pub bounds-pinned-p : goal.bounds-pinned-p
@@ -22,11 +21,14 @@ returns-then-add_axis c =
 
 pub add_axis-requires-2 : goal.add_axis-requires-2
 add_axis-requires-2 c =
-    let p = c.requires in (record { readable = p.readable; p_lt_n = (
+    let p = c.requires in (record {
+      readable = p.readable;
+      p_lt_n = (
         omega (arith, c.wide-p.ensures.same, p.entries.inside _ p.e_lt_count.0),
         omega arith,
         omega (arith, p.e_lt_count.1, c.add_axis.auto.out),
-      ) })
+      );
+    })
 
 pub returns : goal.returns
 returns c =

@@ -1,7 +1,6 @@
 use native.Mathlib.Omega.{arith}
 use Rattle.law.specs.Truth.{refused, passed}
 use Rattle.columns_combine.specs.Combining.{sum_is, not_loaded, nothing_left, gained}
-use borrow.Author.Rules.{rules}
 use Rattle.columns_combine.proofs.combine.combine.Goals as goal
 
 pub add_all-requires : goal.add_all-requires

@@ -3,7 +3,6 @@ use Rattle.law.specs.Refusal.{goes_on, stops, ends}
 use Rattle.law.specs.Truth.{refused, passed}
 use Rattle.step_entries.specs.Entries.{has_names}
 use Rattle.columns_combine.specs.Combining.{refusals, has_places, has_marks}
-use borrow.Author.Rules.{rules}
 use Rattle.columns_combine.proofs.refuse.combining.Goals as goal
 
 pub returns-then-n-gt-PARTICLES : goal.returns-then-n-gt-PARTICLES
@@ -46,12 +45,11 @@ returns-then-not-all_below c =
     (stops _ _ _ (refused _ _ c.all_below.ensures c.if-not-all_below.true-raw)))))
 
 pub table_ok-requires : goal.table_ok-requires
-table_ok-requires c =
-    (
-      c.if-n-gt-PARTICLES.false,
-      has_marks _ _ _ _ _ (passed _ _ c.entries_room.ensures c.if-not-entries_room.false-raw),
-      has_places _ _ _ _ _ _ (passed _ _ c.room.ensures c.if-not-room.false-raw),
-    )
+table_ok-requires c = (
+  c.if-n-gt-PARTICLES.false,
+  has_marks _ _ _ _ _ (passed _ _ c.entries_room.ensures c.if-not-entries_room.false-raw),
+  has_places _ _ _ _ _ _ (passed _ _ c.room.ensures c.if-not-room.false-raw),
+)
 
 pub returns-then-not-table_ok : goal.returns-then-not-table_ok
 unfolding refusals

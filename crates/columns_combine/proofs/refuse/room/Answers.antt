@@ -1,6 +1,5 @@
 use Rattle.law.specs.Room.{enough}
 use Rattle.columns_combine.specs.Combining.{columns_room}
-use borrow.Author.Rules.{rules}
 use Rattle.columns_combine.proofs.refuse.room.Goals as goal
 
 pub returns : goal.returns
