@@ -1,5 +1,4 @@
 use Rattle.columns_block.specs.Blocking.{is_pinned, not_loaded, is_block}
-use borrow.Author.Rules.{rules}
 use Rattle.columns_block.proofs.block.block.Goals as goal
 
 pub returns-then-pinned-particle-ne0 : goal.returns-then-pinned-particle-ne0

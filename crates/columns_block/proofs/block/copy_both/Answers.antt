@@ -1,7 +1,6 @@
 use native.Mathlib.Omega.{arith}
 use Rattle.columns_combine.specs.Readable.{column_long}
 use Rattle.columns_block.specs.Blocking.{rest_long, both_copied}
-use borrow.Author.Rules.{rules}
 use Rattle.columns_block.proofs.block.copy_both.Goals as goal
 
 pub copy-requires : goal.copy-requires

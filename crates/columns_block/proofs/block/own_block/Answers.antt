@@ -2,7 +2,6 @@ use native.Mathlib.Omega.{arith}
 use Rattle.matrix_shape.specs.Rows.{at}
 use Rattle.columns_combine.specs.Readable.{column_long}
 use Rattle.columns_block.specs.Blocking.{block_is}
-use borrow.Author.Rules.{rules}
 use Rattle.columns_block.proofs.block.own_block.Goals as goal
 
 pub vector_at-u-requires : goal.vector_at-u-requires

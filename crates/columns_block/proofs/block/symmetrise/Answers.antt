@@ -1,5 +1,4 @@
 use Rattle.columns_block.specs.Blocking.{symmetrised}
-use borrow.Author.Rules.{rules}
 use Rattle.columns_block.proofs.block.symmetrise.Goals as goal
 
 pub returns : goal.returns

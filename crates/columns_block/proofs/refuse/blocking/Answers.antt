@@ -3,7 +3,6 @@ use Rattle.law.specs.Refusal.{goes_on, stops, ends}
 use Rattle.law.specs.Truth.{refused, passed}
 use Rattle.columns_combine.specs.Combining.{has_places}
 use Rattle.columns_block.specs.Blocking.{refusals}
-use borrow.Author.Rules.{rules}
 use Rattle.columns_block.proofs.refuse.blocking.Goals as goal
 
 pub returns-then-n-gt-PARTICLES : goal.returns-then-n-gt-PARTICLES
