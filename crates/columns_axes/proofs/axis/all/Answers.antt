@@ -1,9 +1,8 @@
-use mathlib.Core.Path.{◌≡◌, refl, ◌∙◌}
-use Prim.Native.Nat.{◌-◌, ◌≤◌, zero-le}
+use mathlib.Core.Path.{refl, ◌∙◌}
+use Prim.Native.Nat.{zero-le}
 use native.Mathlib.Omega.{arith}
-use Rattle.law.specs.Loop.{over, over_none, over_turn, over_done}
-use Rattle.columns_axes.specs.Axes.{given, held, particle_made}
-use Rattle.columns_axes.proofs.Laws.{Alike, still_ready, same_particle}
+use Rattle.law.specs.Loop.{over_none, over_turn, over_done}
+use Rattle.columns_axes.proofs.Laws.{still_ready, same_particle}
 use Rattle.columns_axes.proofs.axis.all.Goals as goal
 
 pub loop-p-init : goal.loop-p-init
@@ -23,7 +22,7 @@ pub overflow_step-p : goal.overflow_step-p
 overflow_step-p c =
     omega (
       arith,
-      c.loop-p-test.taken,
+      c.loop-p-test.true,
       c.requires.solvable.iterable.few,
     )
 
@@ -36,16 +35,16 @@ loop-p-smaller c = omega (
 pub loop-p-preserved : goal.loop-p-preserved
 loop-p-preserved c =
     let v = c.loop-p.invariant in
-    let k = c.particle-both.auto.1.1.1.1.1.1.1.1.1.1.1.1.1.1.1.1.1.1.1 in (
+    let k = c.particle-both.auto in (
       omega (arith, c.loop-p-test.true),
       record {
-        columns = k.0 ∙ v.1.columns;
-        rhs = k.1.0 ∙ v.1.rhs;
-        scratch = k.1.1.0 ∙ v.1.scratch;
-        residual = k.1.1.1.0 ∙ v.1.residual;
-        direction = k.1.1.1.1.0 ∙ v.1.direction;
-        a_direction = k.1.1.1.1.1.0 ∙ v.1.a_direction;
-        z = k.1.1.1.1.1.1.0 ∙
+        columns = k.columns ∙ v.1.columns;
+        rhs = k.rhs ∙ v.1.rhs;
+        scratch = k.scratch ∙ v.1.scratch;
+        residual = k.residual ∙ v.1.residual;
+        direction = k.direction ∙ v.1.direction;
+        a_direction = k.a_direction ∙ v.1.a_direction;
+        z = k.z ∙
             v.1.z;
       },
       over_turn _ 0 _ _ _ _ zero-le v.2 (c.particle-both.ensures ∙ same_particle _ c.requires _ _ _ _ _ _ _ _ _ _),

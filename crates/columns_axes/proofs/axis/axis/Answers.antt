@@ -1,17 +1,17 @@
 use mathlib.Core.Path.{refl}
 use native.Mathlib.Omega.{arith}
-use Rattle.columns_axes.proofs.Laws.{in_buffer, small, response_ready, columns_long, axis_is}
+use Rattle.columns_axes.proofs.Laws.{in_buffer, small, response_ready, axis_is}
 use Rattle.columns_axes.proofs.axis.axis.Goals as goal
 
 pub offset_bounds-column_of-p : goal.offset_bounds-column_of-p
 offset_bounds-column_of-p c =
     let q = c.requires in
-    omega (arith, q.0.solvable.iterable.few, q.1.0)
+    omega (arith, q.ready.solvable.iterable.few, q.p_lt_n.0)
 
 pub bounds-column_of-p : goal.bounds-column_of-p
 bounds-column_of-p c =
     let q = c.requires in
-    omega (arith, q.0.places, q.1.0)
+    omega (arith, q.ready.places, q.p_lt_n.0)
 
 pub overflow_mul-start : goal.overflow_mul-start
 overflow_mul-start c = omega (arith, c.wide.ensures.small)
@@ -26,12 +26,12 @@ overflow_add-start c = omega (
 pub overflow_mul-start-2 : goal.overflow_mul-start-2
 overflow_mul-start-2 c =
     let q = c.requires in
-    omega (arith, q.0.solvable.iterable.few, small _ q.0 _ _ _ c.wide.ensures.same q.1.1 q.1.2)
+    omega (arith, q.ready.solvable.iterable.few, small _ q.ready _ _ _ c.wide.ensures.same q.p_lt_n.1 q.p_lt_n.2)
 
 pub overflow_mul-start-3 : goal.overflow_mul-start-3
 overflow_mul-start-3 c =
     let q = c.requires in
-    omega (arith, q.0.solvable.iterable.few, small _ q.0 _ _ _ c.wide.ensures.same q.1.1 q.1.2)
+    omega (arith, q.ready.solvable.iterable.few, small _ q.ready _ _ _ c.wide.ensures.same q.p_lt_n.1 q.p_lt_n.2)
 
 pub overflow_mul-end : goal.overflow_mul-end
 overflow_mul-end c = omega (
@@ -42,12 +42,12 @@ overflow_mul-end c = omega (
 pub overflow_add-end : goal.overflow_add-end
 overflow_add-end c =
     let q = c.requires in
-    omega (arith, q.0.solvable.iterable.few, small _ q.0 _ _ _ c.wide.ensures.same q.1.1 q.1.2)
+    omega (arith, q.ready.solvable.iterable.few, small _ q.ready _ _ _ c.wide.ensures.same q.p_lt_n.1 q.p_lt_n.2)
 
 pub overflow_cast-particles : goal.overflow_cast-particles
 overflow_cast-particles c =
     let q = c.requires in
-    omega (arith, q.0.solvable.iterable.few, q.1.0)
+    omega (arith, q.ready.solvable.iterable.few, q.p_lt_n.0)
 
 pub slice_bounds-respond-end : goal.slice_bounds-respond-end
 slice_bounds-respond-end c = refl
@@ -58,7 +58,7 @@ slice_bounds-respond-end-2 c = refl
 pub offset_bounds-columns-start : goal.offset_bounds-columns-start
 offset_bounds-columns-start c =
     let q = c.requires in
-    omega (arith, q.0.solvable.iterable.few, small _ q.0 _ _ _ c.wide.ensures.same q.1.1 q.1.2)
+    omega (arith, q.ready.solvable.iterable.few, small _ q.ready _ _ _ c.wide.ensures.same q.p_lt_n.1 q.p_lt_n.2)
 
 pub slice_bounds-respond-count : goal.slice_bounds-respond-count
 slice_bounds-respond-count c = omega arith
@@ -69,15 +69,15 @@ slice_bounds-respond-start c = omega arith
 pub slice_bounds-respond-end-3 : goal.slice_bounds-respond-end-3
 slice_bounds-respond-end-3 c =
     let q = c.requires in
-    in_buffer _ q.0 _ _ _ c.wide.ensures.same q.1.1 q.1.2
+    in_buffer _ q.ready _ _ _ c.wide.ensures.same q.p_lt_n.1 q.p_lt_n.2
 
 pub respond-how-requires : goal.respond-how-requires
 respond-how-requires c =
     let q = c.requires in
-    response_ready _ q.0 _ _ _ c.wide.ensures.same q.1.1 q.1.2 _ _ q.1.0
+    response_ready _ q.ready _ _ _ c.wide.ensures.same q.p_lt_n.1 q.p_lt_n.2 _ _ q.p_lt_n.0
 
 pub returns : goal.returns
 returns c =
     let q = c.requires in
-    axis_is _ q.0 _ _ _ c.wide.ensures.same q.1.1 q.1.2 _ _ _ _ _ _ _ _ _ _ _ _ _ c.unit.ensures c.unit-2.ensures
-    c.respond-how.auto.1.1.1.1.1.1.1.1.1.1.1.1.1.1.1.1.1.1.1.0 c.respond-how.ensures c.counts.ensures
+    axis_is _ q.ready _ _ _ c.wide.ensures.same q.p_lt_n.1 q.p_lt_n.2 _ _ _ _ _ _ _ _ _ _ _ _ _ c.unit.ensures c.unit-2.ensures
+    c.respond-how.auto.out c.respond-how.ensures c.counts.ensures
