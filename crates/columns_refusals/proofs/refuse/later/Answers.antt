@@ -16,9 +16,9 @@ returns-then-not-pattern_formed c = stops _ _ _ (refused _ _ c.pattern_formed.en
 
 pub table_ok-requires : goal.table_ok-requires
 table_ok-requires c = let p = c.requires in (
-  p.0.few,
-  p.1.0,
-  p.1.1,
+  p.roomy.few,
+  p.n_in_bounds.0,
+  p.n_in_bounds.1,
 )
 
 pub returns-then-not-table_ok : goal.returns-then-not-table_ok
