@@ -1,4 +1,4 @@
-use mathlib.Core.Path.{refl, ◌∙◌}
+use mathlib.Core.Path.{refl}
 use native.Mathlib.Omega.{arith}
 use Rattle.columns_axes.proofs.Laws.{still_ready}
 use Rattle.columns_make.proofs.Laws.{work_is}
@@ -26,17 +26,10 @@ clear4-requires c =
 
 pub all-done-requires : goal.all-done-requires
 all-done-requires c =
-    let m = c.clear4.auto.1 in
-    still_ready _ c.requires _ _ _ _ _ _ _ _ refl c.clear.auto.1.0 c.sweep.auto.1.1.0 m.0 m.1.0 m.1.1.0
-    m.1.1.1.0
+    let m = c.clear4.auto in
+    still_ready _ c.requires _ _ _ _ _ _ _ _ refl c.clear.auto.x c.sweep.auto.scratch m.a m.b m.c m.d
 
 pub returns : goal.returns
 returns c =
-    let f = c
-    in
-    let t = f.before.before.before.before.before.before.before.before in
-    let k = t.before.before.before.before.before.before.before.before.before in
-    let s = k.before.before.before.before.before.before.before in
-    let h = s.before.before.before.before in
-    work_is _ h.before.before.before.before.before.before.before.before.before.before.before.before.before.before.before.before.before.before.before.before.before.pre _ _ _ _ _ _ _ _ _ _ _ _ _ _ _ _ _ h.clear.ensures s.sweep.ensures k.clear4.ensures t.fresh.ensures
-    f.all.ensures c.ended_of.ensures
+    work_is _ c.requires _ _ _ _ _ _ _ _ _ _ _ _ _ _ _ _ _ c.clear.ensures c.sweep.ensures c.clear4.ensures c.fresh.ensures
+    c.all-done.ensures c.ended_of.ensures

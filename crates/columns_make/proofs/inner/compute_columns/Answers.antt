@@ -1,4 +1,4 @@
-use mathlib.Core.Path.{refl, sym, ◌∙◌}
+use mathlib.Core.Path.{sym, ◌∙◌}
 use Rattle.law.specs.Promise.{accepts}
 use Rattle.columns_make.specs.Making.{door, refusals, ready, refused_once}
 use Rattle.columns_make.proofs.inner.compute_columns.Goals as goal
