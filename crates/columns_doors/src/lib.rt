@@ -1,5 +1,5 @@
 // The columns of loaded particles (rules, module 6), soft_fem_system_response.rs's clear_columns, load_particle, compute_columns, response_from_columns
-// and particle_block_from_columns: THE DOORS. `compute_columns`, which counts, lends the tally: a thin function, a walk by hand over the covered call.
+// and particle_block_from_columns: THE DOORS. `compute_columns`, which counts, lends the tally: a thin function over the call by value.
 #![tactic(auto)]
 
 ghost use Rattle.law.specs.Promise.{Promise};

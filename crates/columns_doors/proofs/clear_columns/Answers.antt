@@ -1,12 +1,11 @@
 use Prim.Native.Nat.{◌≤◌}
-use mathlib.Core.Path.{◌≡◌, refl, sym, ap, ◌∙◌}
+use mathlib.Core.Path.{◌≡◌, sym, ap, ◌∙◌}
 use lib.ListN.{length}
 use borrow.Author.Tests.{leb-true}
 use Rattle.law.specs.Refusal.{verdict}
 use Rattle.law.specs.Promise.{zero_is, refuses, accepts}
 use Rattle.columns_table.specs.Clearing.{In, left, refusals, door}
 use Rattle.columns_table.specs.declared.Loaded.TheVariants.{Count}
-use borrow.Author.Rules.{rules}
 use Rattle.columns_doors.proofs.clear_columns.Goals as goal
 
 room : (i : In) → verdict (refusals i) ≡ 0 → i.n ≤ length i.column_of

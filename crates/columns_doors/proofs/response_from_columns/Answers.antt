@@ -1,7 +1,6 @@
-use mathlib.Core.Path.{refl, sym, ◌∙◌}
+use mathlib.Core.Path.{sym, ◌∙◌}
 use Rattle.law.specs.Promise.{refuses, accepts}
 use Rattle.columns_combine.specs.Combining.{door, ready}
-use borrow.Author.Rules.{rules}
 use Rattle.columns_doors.proofs.response_from_columns.Goals as goal
 
 pub returns-then-no-ne0 : goal.returns-then-no-ne0
