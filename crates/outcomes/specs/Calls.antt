@@ -12,30 +12,30 @@ use Rattle.plane.specs.contracts.inverse as inverse
 use Rattle.plane.specs.contracts.is_finite as is_finite
 use Rattle.root.specs.contracts.isqrt as isqrt
 use Rattle.root.specs.contracts.root as root
-use Rattle.matrix_row_view.specs.contracts.row_span as row-span
+use Rattle.matrix_row_view.specs.contracts.row_span as row_span
 use Rattle.matrix_row_view.specs.contracts.row_col as row_col
-use Rattle.matrix_row_view.specs.contracts.row_slot as row-slot
-use Rattle.matrix_doors.specs.contracts.from_pairs as from-pairs
-use Rattle.matrix_doors.specs.contracts.pattern_from_pairs as pattern-from-pairs
-use Rattle.matrix_doors.specs.contracts.block_index as block-index
-use Rattle.matrix_doors.specs.contracts.diagonal_index as diagonal-index
-use Rattle.matrix_doors.specs.contracts.clear_values as clear-values
+use Rattle.matrix_row_view.specs.contracts.row_slot as row_slot
+use Rattle.matrix_doors.specs.contracts.from_pairs as from_pairs
+use Rattle.matrix_doors.specs.contracts.pattern_from_pairs as pattern_from_pairs
+use Rattle.matrix_doors.specs.contracts.block_index as block_index
+use Rattle.matrix_doors.specs.contracts.diagonal_index as diagonal_index
+use Rattle.matrix_doors.specs.contracts.clear_values as clear_values
 use Rattle.matrix_doors.specs.contracts.mul as mul
-use Rattle.matrix_doors.specs.contracts.make_dirichlet as make-dirichlet
-use Rattle.matrix_doors.specs.contracts.make_dirichlet_marked as make-dirichlet-marked
+use Rattle.matrix_doors.specs.contracts.make_dirichlet as make_dirichlet
+use Rattle.matrix_doors.specs.contracts.make_dirichlet_marked as make_dirichlet_marked
 use Rattle.plan_doors.specs.contracts.plan as plan
 use Rattle.factor_doors.specs.contracts.factorize as factorize
-use Rattle.factor_doors.specs.contracts.solve as factor-solve
-use Rattle.gradient_doors.specs.contracts.update_preconditioner as update-preconditioner
-use Rattle.gradient_doors.specs.contracts.solve as gradient-solve
-use Rattle.step_doors.specs.contracts.factorize_step_matrix as factorize-step-matrix
-use Rattle.step_doors.specs.contracts.solve_step as solve-step
-use Rattle.step_doors.specs.contracts.response_into as response-into
-use Rattle.columns_doors.specs.contracts.clear_columns as clear-columns
-use Rattle.columns_doors.specs.contracts.load_particle as load-particle
-use Rattle.columns_doors.specs.contracts.compute_columns as compute-columns
-use Rattle.columns_doors.specs.contracts.response_from_columns as response-from-columns
-use Rattle.columns_doors.specs.contracts.particle_block_from_columns as particle-block-from-columns
+use Rattle.factor_doors.specs.contracts.solve as factor_solve
+use Rattle.gradient_doors.specs.contracts.update_preconditioner as update_preconditioner
+use Rattle.gradient_doors.specs.contracts.solve as gradient_solve
+use Rattle.step_doors.specs.contracts.factorize_step_matrix as factorize_step_matrix
+use Rattle.step_doors.specs.contracts.solve_step as solve_step
+use Rattle.step_doors.specs.contracts.response_into as response_into
+use Rattle.columns_doors.specs.contracts.clear_columns as clear_columns
+use Rattle.columns_doors.specs.contracts.load_particle as load_particle
+use Rattle.columns_doors.specs.contracts.compute_columns as compute_columns
+use Rattle.columns_doors.specs.contracts.response_from_columns as response_from_columns
+use Rattle.columns_doors.specs.contracts.particle_block_from_columns as particle_block_from_columns
 use Rattle.step_tally.specs.contracts.fresh as fresh
 use Rattle.step_tally.specs.contracts.total as total
 use Rattle.step_tally.specs.contracts.added as added
@@ -59,36 +59,36 @@ pub record EveryCall : Type 2 where
   pub root_isqrt : OneOutcome isqrt.ended (λ M 𝓤. isqrt.spec)
   pub root_root : OneOutcome root.ended (λ M 𝓤. root.spec)
   -- matrix_row_view
-  pub matrix_row_view_row_span : OneOutcome row-span.ended (λ M 𝓤. row-span.spec)
+  pub matrix_row_view_row_span : OneOutcome row_span.ended (λ M 𝓤. row_span.spec)
   pub matrix_row_view_row_col : OneOutcome row_col.ended (λ M 𝓤. row_col.spec)
-  pub matrix_row_view_row_slot : OneOutcome row-slot.ended (λ M 𝓤. row-slot.spec)
+  pub matrix_row_view_row_slot : OneOutcome row_slot.ended (λ M 𝓤. row_slot.spec)
   -- matrix_doors
-  pub matrix_doors_from_pairs : OneOutcome from-pairs.ended (λ M 𝓤. from-pairs.spec)
-  pub matrix_doors_pattern_from_pairs : OneOutcome pattern-from-pairs.ended (λ M 𝓤. pattern-from-pairs.spec)
-  pub matrix_doors_block_index : OneOutcome block-index.ended (λ M 𝓤. block-index.spec)
-  pub matrix_doors_diagonal_index : OneOutcome diagonal-index.ended (λ M 𝓤. diagonal-index.spec)
-  pub matrix_doors_clear_values : OneOutcome clear-values.ended (λ M 𝓤. clear-values.spec)
+  pub matrix_doors_from_pairs : OneOutcome from_pairs.ended (λ M 𝓤. from_pairs.spec)
+  pub matrix_doors_pattern_from_pairs : OneOutcome pattern_from_pairs.ended (λ M 𝓤. pattern_from_pairs.spec)
+  pub matrix_doors_block_index : OneOutcome block_index.ended (λ M 𝓤. block_index.spec)
+  pub matrix_doors_diagonal_index : OneOutcome diagonal_index.ended (λ M 𝓤. diagonal_index.spec)
+  pub matrix_doors_clear_values : OneOutcome clear_values.ended (λ M 𝓤. clear_values.spec)
   pub matrix_doors_mul : OneOutcome mul.ended (λ M 𝓤. mul.spec)
-  pub matrix_doors_make_dirichlet : OneOutcome make-dirichlet.ended (λ M 𝓤. make-dirichlet.spec)
-  pub matrix_doors_make_dirichlet_marked : OneOutcome make-dirichlet-marked.ended (λ M 𝓤. make-dirichlet-marked.spec)
+  pub matrix_doors_make_dirichlet : OneOutcome make_dirichlet.ended (λ M 𝓤. make_dirichlet.spec)
+  pub matrix_doors_make_dirichlet_marked : OneOutcome make_dirichlet_marked.ended (λ M 𝓤. make_dirichlet_marked.spec)
   -- plan_doors
   pub plan_doors_plan : OneOutcome plan.ended (λ M 𝓤. plan.spec)
   -- factor_doors
   pub factor_doors_factorize : OneOutcome factorize.ended (λ M 𝓤. factorize.spec)
-  pub factor_doors_solve : OneOutcome factor-solve.ended (λ M 𝓤. factor-solve.spec)
+  pub factor_doors_solve : OneOutcome factor_solve.ended (λ M 𝓤. factor_solve.spec)
   -- gradient_doors
-  pub gradient_doors_update_preconditioner : OneOutcome update-preconditioner.ended (λ M 𝓤. update-preconditioner.spec)
-  pub gradient_doors_solve : OneOutcome gradient-solve.ended (λ M 𝓤. gradient-solve.spec)
+  pub gradient_doors_update_preconditioner : OneOutcome update_preconditioner.ended (λ M 𝓤. update_preconditioner.spec)
+  pub gradient_doors_solve : OneOutcome gradient_solve.ended (λ M 𝓤. gradient_solve.spec)
   -- step_doors
-  pub step_doors_factorize_step_matrix : OneOutcome factorize-step-matrix.ended (λ M 𝓤. factorize-step-matrix.spec)
-  pub step_doors_solve_step : OneOutcome solve-step.ended (λ M 𝓤. solve-step.spec)
-  pub step_doors_response_into : OneOutcome response-into.ended (λ M 𝓤. response-into.spec)
+  pub step_doors_factorize_step_matrix : OneOutcome factorize_step_matrix.ended (λ M 𝓤. factorize_step_matrix.spec)
+  pub step_doors_solve_step : OneOutcome solve_step.ended (λ M 𝓤. solve_step.spec)
+  pub step_doors_response_into : OneOutcome response_into.ended (λ M 𝓤. response_into.spec)
   -- columns_doors
-  pub columns_doors_clear_columns : OneOutcome clear-columns.ended (λ M 𝓤. clear-columns.spec)
-  pub columns_doors_load_particle : OneOutcome load-particle.ended (λ M 𝓤. load-particle.spec)
-  pub columns_doors_compute_columns : OneOutcome compute-columns.ended (λ M 𝓤. compute-columns.spec)
-  pub columns_doors_response_from_columns : OneOutcome response-from-columns.ended (λ M 𝓤. response-from-columns.spec)
-  pub columns_doors_particle_block_from_columns : OneOutcome particle-block-from-columns.ended (λ M 𝓤. particle-block-from-columns.spec)
+  pub columns_doors_clear_columns : OneOutcome clear_columns.ended (λ M 𝓤. clear_columns.spec)
+  pub columns_doors_load_particle : OneOutcome load_particle.ended (λ M 𝓤. load_particle.spec)
+  pub columns_doors_compute_columns : OneOutcome compute_columns.ended (λ M 𝓤. compute_columns.spec)
+  pub columns_doors_response_from_columns : OneOutcome response_from_columns.ended (λ M 𝓤. response_from_columns.spec)
+  pub columns_doors_particle_block_from_columns : OneOutcome particle_block_from_columns.ended (λ M 𝓤. particle_block_from_columns.spec)
   -- step_tally
   pub step_tally_fresh : OneOutcome fresh.ended (λ M 𝓤. fresh.spec)
   pub step_tally_total : OneOutcome total.ended (λ M 𝓤. total.spec)
