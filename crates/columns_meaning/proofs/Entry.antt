@@ -1,5 +1,5 @@
 -- One entry combined: the two axes' columns times their weights, over zeros. Assumes nothing.
-use Prim.Native.Nat.{ℕ, ◌+◌, ◌*◌, ◌<◌}
+use Prim.Native.Nat.{ℕ, ◌*◌, ◌<◌}
 use native.Mathlib.Omega.{arith}
 use mathlib.Core.Path.{◌≡◌, refl, ap, ◌∙◌}
 use mathlib.Core.Bool.{Bool, true, false, cond}
@@ -50,10 +50,10 @@ module _ (n : ℕ) (f : ℕ → Vector) (long : (q : ℕ) → length (f q) ≡ 2
 
 -- a loaded particle's axis is added, whatever its weight
 module _ (n : ℕ) (table : List ℕ) (columns : List Float) (p : ℕ) (has : at table p ≡ unloaded → ⊥) where
-  axis_added : (k : ℕ) (weight : Float) (l : List Float) → axis_added n table columns p k weight l
+  axis_added_lem : (k : ℕ) (weight : Float) (l : List Float) → axis_added n table columns p k weight l
       ≡ sum_of (cond (eq weight zero32) l (mix 2 n (advanced_at weight (column_of n columns (at table p) k) l) l)) false
   unfolding axis_added
-  axis_added k weight l = pick (eq weight zero32) refl
+  axis_added_lem k weight l = pick (eq weight zero32) refl
     where
       pick : (t : Bool) → eq weight zero32 ≡ t → axis_added n table columns p k weight l
           ≡ sum_of (cond (eq weight zero32) l (mix 2 n (advanced_at weight (column_of n columns (at table p) k) l) l)) false
@@ -99,7 +99,7 @@ module _ (j : In) (s t : List Float) (v : verdict (refusals j) ≡ 0) (w : OneEn
   sum_is =
       let n = j.n in
       let c = column_of n j.columns (at j.column_of p) in
-      let added = axis_added n j.column_of j.columns p w.has in
+      let added = axis_added_lem n j.column_of j.columns p w.has in
       let f : ℕ → Vector = λ q. plus (x g) (vector_at (c 0) q) zero_of in
       let one = added 0 (x g) (cleared n j.out) ∙ ap (λ (l : List Float). sum_of l false) (plus_mix n (λ _. zero_of) (λ q. refl) j.out (x g) (c 0)) in
       let two = added 1 (y g) (mix 2 n f j.out) ∙ ap (λ (l : List Float). sum_of l false)
@@ -115,9 +115,9 @@ module _ (j : In) (s t : List Float) (v : verdict (refusals j) ≡ 0) (w : OneEn
       ap (λ (m : Sum). vector_at m.out p) sum_is ∙ mix_vector (weighted_at s t g) (weighted_long s t g) j.n j.out p inside
       ∙ pair_of (weighted_at s t g p) (weighted_long s t g p)
 
-  gain_of : (l : List Float) → raw_gain j.pinned j.count j.particles j.gradients l ≡ zero32 ⊕ dot_of g (vector_at l p)
+  gain_of_lem : (l : List Float) → raw_gain j.pinned j.count j.particles j.gradients l ≡ zero32 ⊕ dot_of g (vector_at l p)
   unfolding raw_gain over fold gain_step free
-  gain_of l = rw (w.one, eq-eqb _ _ unpinned)
+  gain_of_lem l = rw (w.one, eq-eqb _ _ unpinned)
 
   one_free : any_free j.pinned j.count j.particles ≡ true
   unfolding any_free some over fold free
@@ -128,7 +128,7 @@ module _ (j : In) (s t : List Float) (v : verdict (refusals j) ≡ 0) (w : OneEn
 
   answer_is : answer_of j (sum_for j) ≡ Gain gain
   answer_is =
-      let e = gain_of (sum_for j).out ∙ ap (λ (u : Vector). zero32 ⊕ dot_of g u) at_entry in
+      let e = gain_of_lem (sum_for j).out ∙ ap (λ (u : Vector). zero32 ⊕ dot_of g u) at_entry in
       rw (ap (λ (m : Sum). m.missing) sum_is, one_free, e)
 
 pub one_entry : OneEntryWeighs

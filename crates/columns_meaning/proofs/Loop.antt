@@ -46,9 +46,9 @@ module _ (n : ℕ) (l : List Float) (c k : ℕ) (v : List Float) (long : length 
   column_else d m w ne h j g = rw (start_is n c k) (part_else (2 * n) nan l (2 * c + k) v (2 * d + m) long ne j g ∙ h j g)
 
 -- what a part holds, read as a column
-column_of : (n : ℕ) (l : List Float) (c k : ℕ) (v : List Float) → length v ≡ 2 * n → start_of n c k + 2 * n ≤ length l → Holds (2 * n) nan l (2 * c + k) v
+column_of_lem : (n : ℕ) (l : List Float) (c k : ℕ) (v : List Float) → length v ≡ 2 * n → start_of n c k + 2 * n ≤ length l → Holds (2 * n) nan l (2 * c + k) v
     → column_of n l c k ≡ v
-column_of n l c k v long room h =
+column_of_lem n l c k v long room h =
     let s = start_of n c k in
     let e : s + 2 * n - s ≡ 2 * n = omega arith in
     let size : length (column_of n l c k) ≡ 2 * n = length_part s (s + 2 * n) l (omega arith) room ∙ e in
@@ -224,5 +224,5 @@ module _ (i : In) (has : Ready i) where
   pub columns_hold : (p k : ℕ) → Loaded i p → k < 2 → column_of i.n (made i).columns (column_at p) k ≡ solution i p k
   columns_hold p k is g =
       let room = column_inside i.n (column_at p) k i.loaded (has.numbered.inside p is.0 is.1) g in
-      column_of i.n (made i).columns (column_at p) k (solution i p k) (solution_long i p k)
+      column_of_lem i.n (made i).columns (column_at p) k (solution i p k) (solution_long i p k)
       (omega (arith, room, made_is.long, has.room)) (made_is.parts p k is.0 is g)

@@ -1,7 +1,7 @@
 -- Readings, computed: columns of one particle and of two, on either route, counted in a lent record; and one entry combined from them, beside the
 -- response on the same matrix. Lists have a place too many, and NaN in all that may be written. Assumes nothing.
 use Prim.Native.Nat.{ℕ}
-use mathlib.Core.Path.{◌≡◌, refl}
+use mathlib.Core.Path.{◌≡◌, refl, sym, ap, ◌∙◌}
 use mathlib.Core.Bool.{true}
 use mathlib.Core.List.{List, [], ◌∷◌, ◌++◌, map}
 use lib.Ieee.{Float, nan, binary32, of_bits, add, sub, mul, div, neg, lt, le, eq, ne}
@@ -143,14 +143,17 @@ unfolding floats counts junk none compute combine respond cleared crossed outcom
     slot_ok plan_rules_ok undo_ok back_ok firsts_ok twins_ok starts_ok grow_ok every some settings_ok solve_of placed_of permuted backward_of back_step taken_of
     forward_of forward_step forward_by solvedSum solved started launched fresh_of finished rescaled run turn product preconditioned advanced retreated
     redirected lacking scaled zeros product_at row_sum slot_step dot_all gather over fold of_bits add sub mul div neg lt le eq ne
-readings = record {
-  columns = refl;
-  combined = refl;
-  response = refl;
-  same_out = refl;
-  none_loaded = refl;
-  no_turn = refl;
-  refused = refl;
-  at_cap = refl;
-  by_particle = refl;
-}
+readings =
+    let combined : combine (compute 2 1 1 0 fresh).columns ≡ C.left (Gain ten) both = refl in
+    let response : respond ≡ R.left (responded.Direct ten) both (none 1) (none 1) (none 1) (none 1) (none 1) (none 1) = refl in
+    record {
+      columns = refl;
+      combined = combined;
+      response = response;
+      same_out = ap (λ (o : C.Out). o.out) combined ∙ sym (ap (λ (o : R.Out). o.out) response);
+      none_loaded = refl;
+      no_turn = refl;
+      refused = refl;
+      at_cap = refl;
+      by_particle = refl;
+    }
