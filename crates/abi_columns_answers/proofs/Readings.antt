@@ -1,7 +1,7 @@
 -- What the lent places hold after each kind of answer of the column calls, computed from what it says, whatever they held. Assumes nothing.
 use Prim.Native.Nat.{ℕ}
 use mathlib.Core.Path.{◌≡◌, refl}
-use mathlib.Core.List.{List, [], ◌∷◌}
+use mathlib.Core.List.{[], ◌∷◌}
 use lib.Ieee.{Float}
 use Rattle.plane.specs.Plane.{zero32}
 use Rattle.step_tally.specs.declared.Tally.{Tally}
