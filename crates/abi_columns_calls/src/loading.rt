@@ -2,7 +2,7 @@
 ghost use Rattle.columns_table.specs.Clearing as clearing;
 ghost use Rattle.columns_table.specs.Loading as loading;
 ghost use Rattle.abi_answers.specs.Numbers.{Told};
-ghost use Rattle.abi_columns_answers.specs.Loads.{loaded_number, loaded_after};
+ghost use Rattle.abi_columns_answers.specs.Loads as loads;
 
 use abi_columns_answers::loaded;
 
@@ -12,7 +12,7 @@ pub extern "C" fn bracket_clear_columns(
     column_of: &mut [u32],
     loaded_after: &mut usize,
 ) -> u8
-    ensures { Told clearing.door (λ o. o.answer) loaded_number loaded_after
+    ensures { Told clearing.door (λ o. o.answer) loads.loaded_number loads.loaded_after
         (clearing.given n column_of.old)
         result
         (λ a. clearing.left a column_of.new)
@@ -32,7 +32,7 @@ pub extern "C" fn bracket_load_particle(
     column_of: &mut [u32],
     loaded_after: &mut usize,
 ) -> u8
-    ensures { Told loading.door (λ o. o.answer) loaded_number loaded_after
+    ensures { Told loading.door (λ o. o.answer) loads.loaded_number loads.loaded_after
         (loading.given n pinned.now loaded particle column_of.old)
         result
         (λ a. loading.left a column_of.new)
