@@ -3,7 +3,8 @@ use Rattle.std.specs.Prelude.{ℕ, ◌≡◌}
 use Rattle.std.proofs.Common.{sym, ap, ◌∙◌, subst}
 use Rattle.law.specs.Promise.{Door, Promise, outcome}
 use Rattle.law.specs.Said.{refusal_of}
-use Rattle.law.specs.One.{One, comes_so}
+use Rattle.law.specs.One.{One}
+use Rattle.law.proofs.One.{comes_so}
 use Rattle.matrix_building.specs.Said.{built_said}
 use Rattle.matrix_doors.specs.Said.{ran_said, found_said}
 use Rattle.plan_doors.specs.Said.{planned_said}

@@ -1,6 +1,7 @@
 -- ONE OUTCOME of each call over the C ABI, by the contract that its own theorem cites.
 use mathlib.Core.Path.{refl}
-use Rattle.law.specs.One.{OneOutcome, plainly, past, of_parts, of_both}
+use Rattle.law.specs.One.{OneOutcome, past}
+use Rattle.law.proofs.One.{plainly, of_parts, of_both}
 use Rattle.matrix_row_view.specs.Showing as showing
 use Rattle.matrix_building.specs.FromPairs as frompairs
 use Rattle.matrix_building.specs.Building as building

@@ -1,6 +1,7 @@
 -- ONE OUTCOME of each call over the C ABI, by the contract that its own theorem cites.
 use mathlib.Core.Path.{refl}
-use Rattle.law.specs.One.{OneOutcome, plainly, past}
+use Rattle.law.specs.One.{OneOutcome, past}
+use Rattle.law.proofs.One.{plainly}
 use Rattle.columns_table.specs.Clearing as clearing
 use Rattle.columns_table.specs.Loading as loading
 use Rattle.columns_make.specs.Making as making

@@ -3,8 +3,10 @@ use Rattle.std.specs.Prelude.{ℕ, ◌≤◌, ◌<◌, ◌≡◌, refl, List, []
 use Rattle.std.proofs.Common.{ap, ◌∙◌, arith, le-leb}
 use Rattle.std.proofs.lemmas.Bool.{lt-leb}
 use Rattle.law.specs.Number.{short_buffer}
-use Rattle.law.specs.Refusal.{Test, unless, Rising, goes_on, stops, ends}
-use Rattle.law.specs.Promise.{Door, Promise, refuses, accepts}
+use Rattle.law.specs.Refusal.{Test, unless, Rising}
+use Rattle.law.proofs.Refusals.{goes_on, stops, ends}
+use Rattle.law.specs.Promise.{Door, Promise}
+use Rattle.law.proofs.Promise.{refuses, accepts}
 use Rattle.law.specs.Store.{written, written_front}
 
 -- the number answered, and the lent slice at the call's exit

@@ -3,7 +3,8 @@
 use Rattle.std.specs.Prelude.{ℕ, ◌≡◌, List, [], ◌∷◌, get_or}
 use Rattle.std.proofs.Common.{sym, ap, ◌∙◌}
 use Rattle.law.specs.Promise.{Door, Promise, outcome, Counted}
-use Rattle.law.specs.One.{One, comes_so}
+use Rattle.law.specs.One.{One}
+use Rattle.law.proofs.One.{comes_so}
 use Rattle.step_tally.specs.declared.Asked.{Asked}
 use Rattle.step_tally.specs.declared.Tally.{Tally}
 use Rattle.step_tally.specs.Count.{counted_of}

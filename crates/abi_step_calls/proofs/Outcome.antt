@@ -1,6 +1,7 @@
 -- ONE OUTCOME of each call over the C ABI, by the contract that its own theorem cites.
 use mathlib.Core.Path.{refl}
-use Rattle.law.specs.One.{OneOutcome, plainly, past}
+use Rattle.law.specs.One.{OneOutcome, past}
+use Rattle.law.proofs.One.{plainly}
 use Rattle.step_solve.specs.Marking as marking
 use Rattle.step_solve.specs.Stepping as stepping
 use Rattle.step_response.specs.Responding as responding

@@ -25,7 +25,8 @@ use Rattle.order_definition.specs.Envelope.{first_block, first_col, row_starts}
 use Rattle.plan_make.specs.Plan.{plan_by, plan_of, envelope_length}
 use Rattle.bench_scan.specs.Numbers.{is_gap, is_digit, allowed, before, pieces, filled, numbers, small}
 use Rattle.bench_text.specs.Text.{counted, described}
-use Rattle.bench_text.specs.Nine.{limits, number_by, outcome_by, nine_is, nine_of}
+use Rattle.bench_text.specs.Nine.{limits, number_by, outcome_by}
+use Rattle.bench_text.proofs.Nine.{nine_is, nine_of}
 use Rattle.bench_print.specs.Digits.{digits, digits_in}
 use Rattle.bench_print.specs.Lines.{item, listed, order_line, number_line, plan_text, refused_text, lines_room}
 use Rattle.bench_plan.specs.Built.{Counted}

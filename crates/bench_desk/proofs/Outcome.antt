@@ -3,7 +3,8 @@ use Prim.Native.Nat.{ℕ, zero, suc}
 use mathlib.Core.Path.{◌≡◌, refl}
 use mathlib.Core.List.{List}
 use Rattle.law.specs.Promise.{by}
-use Rattle.law.specs.One.{OneOutcome, plainly, past, of_parts}
+use Rattle.law.specs.One.{OneOutcome, past}
+use Rattle.law.proofs.One.{plainly, of_parts}
 use Rattle.bench_text.specs.Nine.{number_by, outcome_by}
 use Rattle.bench_answer.specs.Answering.{Out, left, refusals, work, refuse, answering, given_by}
 use Rattle.bench_desk.specs.contracts.answer as answer

@@ -1,2 +1,3 @@
 mod Lines
 mod Header
+pub mod Shown

@@ -5,9 +5,11 @@ use mathlib.Core.List.{List, [], ◌∷◌}
 use native.Mathlib.Omega.{arith}
 use lib.ListN.{length, length-append}
 use Rattle.law.specs.Bytes.{bytes}
-use Rattle.law.specs.Gather.{table, length_table}
+use Rattle.law.specs.Gather.{table}
+use Rattle.law.proofs.Gather.{length_table}
 use Rattle.law.specs.Put.{Put, Written, put_both, written_of}
-use Rattle.law.specs.Store.{written, write_none}
+use Rattle.law.specs.Store.{written}
+use Rattle.law.proofs.Store.{write_none}
 use Rattle.bench_picture.specs.Pixels.{Scene, digit, pixel, width, row_of}
 use Rattle.bench_picture.specs.Ready.{line_room}
 

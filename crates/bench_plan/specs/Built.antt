@@ -4,7 +4,7 @@ use Rattle.std.proofs.Math.Path.{ap}
 use Rattle.std.proofs.Common.{◌∙◌, arith, take_at}
 use mathlib.Core.List.{List, ◌++◌, append_assoc}
 use Rattle.law.specs.Every.{every}
-use Rattle.law.specs.Gather.{length_table}
+use Rattle.law.proofs.Gather.{length_table}
 use Rattle.law.specs.Limit.{particles, pairs as pairLimit}
 use Rattle.matrix_shape.specs.Made.{start_of, starts_of, slots_of, begins, length_cols}
 use Rattle.matrix_shape.specs.Rows.{at, Pattern}

@@ -7,8 +7,10 @@ use Rattle.law.specs.Limit.{particles, pairs as pairLimit}
 use Rattle.law.specs.Promise.{Promise}
 use Rattle.law.specs.Refusal.{Test, verdict}
 use Rattle.bench_text.specs.Text.{described, particle_count, pair_count}
-use Rattle.bench_text.specs.Nine.{limits, number_by, refused_by, is_described}
+use Rattle.bench_text.specs.Nine.{limits, number_by}
+use Rattle.bench_text.proofs.Nine.{refused_by, is_described}
 use Rattle.bench_text.specs.Reading as reading
+use Rattle.bench_text.proofs.Reading as reading_lemmas
 use Rattle.bench_text.specs.declared.inner.Input.{Input}
 use Rattle.bench_text.specs.declared.inner.Input.TheVariants as input
 use Rattle.bench_plan.specs.Outcome.{Out, given, later, refusals, left, planning, given_by, planned_for}
@@ -34,7 +36,7 @@ early n p k rest e h = go (leb n particles) (leb p pairLimit) refl refl
 module _ (s room z : List ℕ) (k : ℕ) (i : Input) (long : length room ≡ numbers_room) (reads : reading.Reads (reading.given s room) (reading.left i z))
     (is : i ≡ input.Refused k) where
   found : (reading.number_of (reading.given s room) ≡ k) × (0 < k)
-  found = reading.refused_of s room z k (rw is at reads)
+  found = reading_lemmas.refused_of s room z k (rw is at reads)
 
   -- the number is that of whatever begins with the limits
   pub read_number : (rest : List Test) → (number_by s (limits (particle_count s) (pair_count s) ++ rest) ≡ k) × (0 < k)
@@ -52,7 +54,7 @@ module _ (s room z : List ℕ) (k : ℕ) (i : Input) (long : length room ≡ num
 
 pub read_well : (s room z : List ℕ) (n p : ℕ) (i : Input) → reading.Reads (reading.given s room) (reading.left i z) → i ≡ input.Text n p
     → reading.Accepted s room z n p
-read_well s room z n p i reads is = reading.accepted_of s room z n p (rw is at reads)
+read_well s room z n p i reads is = reading_lemmas.accepted_of s room z n p (rw is at reads)
 
 module _ (s room z : List ℕ) (n p : ℕ) (t : reading.Accepted s room z n p) where
   pub read_counted : Counted n p (take (2 * p) z)
@@ -60,7 +62,7 @@ module _ (s room z : List ℕ) (n p : ℕ) (t : reading.Accepted s room z n p) w
       record {
         few = t.few;
         few_pairs = t.few_pairs;
-        all = rw (t.front, t.second) (omega (arith, reading.pair_numbers_lem s t.right));
+        all = rw (t.front, t.second) (omega (arith, reading_lemmas.pair_numbers_lem s t.right));
       }
 
   pub read_planned : (o : Out) → Promise planning (given n p (take (2 * p) z)) o → o ≡ planned_for s

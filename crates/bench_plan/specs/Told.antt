@@ -5,10 +5,11 @@ use Rattle.std.specs.Prelude.{refl, List, take}
 use Rattle.std.proofs.Common.{arith, leb-true}
 use Rattle.law.specs.Limit.{particles}
 use Rattle.law.specs.Promise.{by}
-use Rattle.law.specs.Refusal.{all_pass}
+use Rattle.law.proofs.Refusals.{all_pass}
 use Rattle.matrix_shape.specs.Rows.{at}
 use Rattle.bench_text.specs.Text.{particle_count, pair_count, pair_numbers}
-use Rattle.bench_text.specs.Nine.{limits, outcome_by, no_nine}
+use Rattle.bench_text.specs.Nine.{limits, outcome_by}
+use Rattle.bench_text.proofs.Nine.{no_nine}
 use Rattle.bench_plan.specs.Outcome.{starts_by, cols_by, order_by, first_by, length_by, Out, later, refusals, in_order, left, work, refuse, given_by}
 use Rattle.bench_plan.specs.Outcome.{number_for, planned_for}
 use Rattle.bench_plan.specs.declared.inner.Drafted.{Drafted}

@@ -9,9 +9,11 @@ use lib.ListN.{length, get_or, length-append}
 use lib.Dec.{ltb}
 use borrow.Author.Tests.{ltb-true, ltb-false}
 use Rattle.law.specs.Bytes.{bytes}
-use Rattle.law.specs.Gather.{up_to, up_to_none, up_to_more}
-use Rattle.law.specs.Loop.{from}
-use Rattle.bench_print.specs.Digits.{digits, digits_one, digits_more}
+use Rattle.law.specs.Gather.{up_to}
+use Rattle.law.proofs.Gather.{up_to_none, up_to_more}
+use Rattle.law.proofs.Loop.{from}
+use Rattle.bench_print.specs.Digits.{digits}
+use Rattle.bench_print.proofs.Digits.{digits_one, digits_more}
 use Rattle.bench_print.specs.Lines.{item, listed, order_line, number_line, plan_text, refused_text, lines_room, refused_room}
 
 short_case : (k n m : ℕ) (b : Bool) → ltb n 10 ≡ b → n < m * 10 → ((x : ℕ) → x < m → length (digits x) ≤ k) → 0 < k → length (digits n) ≤ suc k

@@ -2,3 +2,4 @@ mod Numbers
 mod Lists
 pub mod Lengths
 mod Readings
+pub mod Digits

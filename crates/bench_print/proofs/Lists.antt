@@ -6,7 +6,8 @@ use native.Mathlib.Omega.{arith}
 use native.Mathlib.Numerals.{add-one}
 use lib.ListN.{length, get_or, take, set}
 use lib.Seq.{take-suc, take-length, length-take-le}
-use Rattle.law.specs.Gather.{gather, gather_none, gather_more, up_to, up_to_more, up_to_rise}
+use Rattle.law.specs.Gather.{gather, up_to}
+use Rattle.law.proofs.Gather.{gather_none, gather_more, up_to_more, up_to_rise}
 use Rattle.law.specs.Put.{Put, put_none, put_one, put_both}
 use Rattle.bench_print.specs.Digits.{digits}
 use Rattle.bench_print.specs.Lines.{item, listed}

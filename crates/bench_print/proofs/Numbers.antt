@@ -6,7 +6,8 @@ use native.Mathlib.Omega.{arith}
 use native.Mathlib.Nat.{mod-lt}
 use lib.ListN.{length, set}
 use Rattle.law.specs.Put.{Put, put_one, put_both, room_first, room_second}
-use Rattle.bench_print.specs.Digits.{digits, digits_one, digits_more, tenth}
+use Rattle.bench_print.specs.Digits.{digits}
+use Rattle.bench_print.proofs.Digits.{digits_one, digits_more, tenth}
 
 pub tenth_less : (n : ℕ) {t : ℕ} → 10 ≤ n → n ≡ t → n / 10 < t
 tenth_less n h e = omega (arith, tenth n h)

@@ -4,7 +4,8 @@ use Rattle.std.proofs.Common.{ap, sym, arith, zero-add, add-zero, le_refl, le-le
 use Rattle.std.proofs.Math.Bool.{true, false}
 use mathlib.Core.List.{List, [], ◌∷◌, map}
 use Rattle.std.proofs.lemmas.Bool.{lt-leb}
-use Rattle.law.specs.Along.{along, over_list}
+use Rattle.law.specs.Along.{along}
+use Rattle.law.proofs.Along.{over_list}
 use Rattle.law.specs.All.{all}
 use Rattle.law.specs.Decimal.{value_from, value}
 use Rattle.bench_scan.specs.Numbers.{is_gap, is_digit, allowed, before, pieces, filled, numbers, largest, small, digit_at}

@@ -4,11 +4,12 @@ use Rattle.law.specs.Limit.{particles}
 use Rattle.law.specs.Number.{bad_text}
 use Rattle.law.specs.Put.{Written}
 use Rattle.bench_text.specs.Text.{described}
-use Rattle.bench_text.specs.Buffer.{Buffered, ReadFrom, decides}
+use Rattle.bench_text.specs.Buffer.{Buffered, ReadFrom}
+use Rattle.bench_text.proofs.Buffers.{decides}
 use Rattle.bench_print.specs.Lines.{refused_text, lines_room}
 use Rattle.bench_answer.specs.Answer.{answer_of}
 use Rattle.bench_answer.specs.Answering.{left, Answers}
-use Rattle.bench_answer.specs.Printed.{to_print, printed}
+use Rattle.bench_answer.proofs.Printed.{to_print, printed}
 use Rattle.bench_answer.specs.declared.Answered.{Answered}
 use Rattle.bench_answer.specs.declared.Answered.TheVariants.{Refused, Done}
 

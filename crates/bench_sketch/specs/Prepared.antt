@@ -4,7 +4,7 @@ use Rattle.std.proofs.Common.{append-nil}
 use native.Mathlib.Omega.{arith}
 use Rattle.std.proofs.Math.ListN.{take}
 use Rattle.std.proofs.Math.Seq.{take_all}
-use Rattle.law.specs.Gather.{length_table}
+use Rattle.law.proofs.Gather.{length_table}
 use Rattle.law.specs.Limit.{particles}
 use Rattle.matrix_shape.specs.Index.{line_of}
 use Rattle.matrix_shape.specs.Made.{start_of, starts_of, slots_of, length_cols}

@@ -8,8 +8,9 @@ use Rattle.matrix_shape.specs.Made.{length_cols}
 use Rattle.matrix_shape.specs.Rows.{at}
 use Rattle.matrix_pairs.specs.Pairs.{stored_by}
 use Rattle.bench_text.specs.Text.{described, particle_count, pair_count, pair_numbers}
-use Rattle.bench_text.specs.Nine.{nine_of}
-use Rattle.bench_text.specs.Buffer.{Buffered, ReadFrom, decides}
+use Rattle.bench_text.proofs.Nine.{nine_of}
+use Rattle.bench_text.specs.Buffer.{Buffered, ReadFrom}
+use Rattle.bench_text.proofs.Buffers.{decides}
 use Rattle.bench_print.specs.Lines.{refused_text}
 use Rattle.bench_plan.specs.Outcome.{order_by, first_by, refusals, left, given_by, number_for, planned_for}
 use Rattle.bench_plan.specs.Told.{Tells, told_refused, told_done}

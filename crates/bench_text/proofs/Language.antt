@@ -14,7 +14,8 @@ use Rattle.law.specs.Refusal.{Under}
 use Rattle.law.specs.Truth.{both, and_true}
 use Rattle.bench_scan.specs.Numbers.{is_gap, allowed, before, pieces, filled, numbers, largest, small}
 use Rattle.bench_text.specs.Text.{counted, described, pair_count}
-use Rattle.bench_text.specs.Nine.{limits, nine_is, nine_of}
+use Rattle.bench_text.specs.Nine.{limits}
+use Rattle.bench_text.proofs.Nine.{nine_is, nine_of}
 use Rattle.bench_text.specs.Reading.{In, refusals, tests, number_of}
 
 -- ---- a text's numbers: these three laws leave `numbers` no choice

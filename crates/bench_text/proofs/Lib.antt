@@ -2,3 +2,6 @@ mod Passes
 mod Language
 mod Readings
 mod Filling
+pub mod Buffers
+pub mod Nine
+pub mod Reading

@@ -10,7 +10,8 @@ use lib.Dec.{leb, eqb}
 use borrow.Author.Tests.{le-leb, lt-leb, leb-true, eqb-true, eqb-false, eq-eqb, ne_eqb}
 use Rattle.law.specs.All.{all}
 use Rattle.law.specs.Limit.{bytes as byteLimit}
-use Rattle.law.specs.Refusal.{verdict, all_pass}
+use Rattle.law.specs.Refusal.{verdict}
+use Rattle.law.proofs.Refusals.{all_pass}
 use Rattle.law.specs.Store.{written, written_whole}
 use Rattle.law.specs.Truth.{both}
 use Rattle.bench_scan.specs.Numbers.{allowed, numbers, small}
@@ -21,7 +22,8 @@ use Rattle.bench_scan.specs.declared.inner.Scan.TheVariants.{Bad, Gap, Word}
 use Rattle.bench_text.specs.Text.{counted, described, particle_count, pair_count, pair_numbers, Known}
 use Rattle.bench_text.specs.Head.{head_of, counted_of}
 use Rattle.bench_text.specs.Nine.{limits}
-use Rattle.bench_text.specs.Reading.{tests, given, left, work, pair_numbers_lem}
+use Rattle.bench_text.specs.Reading.{tests, given, left, work}
+use Rattle.bench_text.proofs.Reading.{pair_numbers_lem}
 use Rattle.bench_text.specs.declared.head.Head.{Head}
 use Rattle.bench_text.specs.declared.head.Head.TheVariants.{None, Counts}
 use Rattle.bench_text.specs.declared.inner.Input.TheVariants.{Text}

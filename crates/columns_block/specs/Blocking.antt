@@ -8,9 +8,12 @@ use Rattle.law.specs.Limit.{particles, unloaded}
 use Rattle.law.specs.Number.{too_many_particles, short_buffer, out_of_range, bad_plan}
 use Rattle.law.specs.Loop.{fold, over}
 use Rattle.law.specs.Gather.{gather}
-use Rattle.law.specs.Mix.{mix, mix_whole}
-use Rattle.law.specs.Room.{enough, enough_is}
-use Rattle.law.specs.Refusal.{Test, unless, Rising, verdict, all_pass}
+use Rattle.law.specs.Mix.{mix}
+use Rattle.law.proofs.Mix.{mix_whole}
+use Rattle.law.specs.Room.{enough}
+use Rattle.law.proofs.Room.{enough_is}
+use Rattle.law.specs.Refusal.{Test, unless, Rising, verdict}
+use Rattle.law.proofs.Refusals.{all_pass}
 use Rattle.law.specs.Promise.{Door}
 use Rattle.law.specs.Said.{Said}
 use Rattle.plane.specs.Plane.{Vector, Block, pair, x, y, c0, c1, add_of, scale_of, zero_of}

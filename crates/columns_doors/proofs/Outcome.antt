@@ -3,7 +3,8 @@ use mathlib.Core.Path.{◌≡◌, refl}
 use mathlib.Core.Bool.{Bool, true, false, cond}
 use lib.Dec.{eqb}
 use Rattle.law.specs.Limit.{unloaded}
-use Rattle.law.specs.One.{OneOutcome, plainly, past, of_door}
+use Rattle.law.specs.One.{OneOutcome, past}
+use Rattle.law.proofs.One.{plainly, of_door}
 use Rattle.matrix_shape.specs.Rows.{at}
 use Rattle.columns_table.specs.Clearing as clearing
 use Rattle.columns_table.specs.Loading as loading

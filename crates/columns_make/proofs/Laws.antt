@@ -2,7 +2,8 @@
 use mathlib.Core.Path.{◌≡◌, ap, ◌∙◌}
 use mathlib.Core.List.{List}
 use lib.Ieee.{Float}
-use Rattle.law.specs.Loop.{over, over_same}
+use Rattle.law.specs.Loop.{over}
+use Rattle.law.proofs.Loop.{over_same}
 use Rattle.step_tally.specs.declared.Tally.{Tally}
 use Rattle.step_tally.specs.Runs.{fresh}
 use Rattle.step_routes.specs.Dense.{cleared, swept}

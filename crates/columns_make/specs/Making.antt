@@ -4,9 +4,11 @@
 use Rattle.std.specs.Prelude.{ℕ, ◌≡◌, true, List, Float}
 use Rattle.std.proofs.Common.{arith}
 use Rattle.law.specs.Loop.{over}
-use Rattle.law.specs.Room.{enough_is}
-use Rattle.law.specs.Refusal.{verdict, all_pass, none_fails}
-use Rattle.law.specs.Promise.{Door, Promise, refuses}
+use Rattle.law.proofs.Room.{enough_is}
+use Rattle.law.specs.Refusal.{verdict}
+use Rattle.law.proofs.Refusals.{all_pass, none_fails}
+use Rattle.law.specs.Promise.{Door, Promise}
+use Rattle.law.proofs.Promise.{refuses}
 use Rattle.law.specs.Said.{Said}
 use Rattle.step_tally.specs.declared.Tally.{Tally}
 use Rattle.step_tally.specs.declared.Asked.TheVariants.{One}

@@ -11,9 +11,12 @@ use borrow.Author.Tests.{eq-eqb, ne_eqb}
 use Rattle.law.specs.Limit.{unloaded}
 use Rattle.law.specs.Loop.{over, fold}
 use Rattle.law.specs.Every.{some}
-use Rattle.law.specs.Gather.{gather, gather_same}
-use Rattle.law.specs.Mix.{mix, length_parts}
-use Rattle.law.specs.Refusal.{verdict, all_pass}
+use Rattle.law.specs.Gather.{gather}
+use Rattle.law.proofs.Gather.{gather_same}
+use Rattle.law.specs.Mix.{mix}
+use Rattle.law.proofs.Mix.{length_parts}
+use Rattle.law.specs.Refusal.{verdict}
+use Rattle.law.proofs.Refusals.{all_pass}
 use Rattle.law.specs.Promise.{by, outcome}
 use Rattle.plane.specs.Plane.{Vector, pair, x, y, ◌⊕◌, zero32, zero_of, add_of, scale_of, dot_of}
 use Rattle.plane.specs.Lent.{vector_at}

@@ -13,10 +13,12 @@ use lib.Ieee.{Float, nan}
 use borrow.Author.Tests.{eqb-true, eqb-false, eq-eqb, ne_eqb}
 use Rattle.law.specs.Limit.{tally, unloaded}
 use Rattle.law.specs.Truth.{below_or}
-use Rattle.law.specs.Loop.{over_holds}
-use Rattle.law.specs.Gather.{gather, gather_none, gather_more}
+use Rattle.law.proofs.Loop.{over_holds}
+use Rattle.law.specs.Gather.{gather}
+use Rattle.law.proofs.Gather.{gather_none, gather_more}
 use Rattle.law.specs.Store.{written, written_long, drop_written, part_at, length_part}
-use Rattle.law.specs.Mix.{Holds, part_new, part_else}
+use Rattle.law.specs.Mix.{Holds}
+use Rattle.law.proofs.Mix.{part_new, part_else}
 use Rattle.matrix_shape.specs.Rows.{at}
 use Rattle.gradient_definition.specs.Vectors.{zeros}
 use Rattle.step_tally.specs.declared.Tally.{Tally}

@@ -7,9 +7,11 @@ use mathlib.Core.List.{List, [], ◌∷◌, ◌++◌}
 use lib.ListN.{length, get_or, set, drop, length-set, get_or-append}
 use lib.Seq.{set-append_left}
 use lib.Ieee.{Float, nan}
-use Rattle.law.specs.Gather.{gather, up_to_even, gather_at}
+use Rattle.law.specs.Gather.{gather}
+use Rattle.law.proofs.Gather.{up_to_even, gather_at}
 use Rattle.law.specs.Store.{written}
-use Rattle.law.specs.Mix.{mix, length_parts}
+use Rattle.law.specs.Mix.{mix}
+use Rattle.law.proofs.Mix.{length_parts}
 use Rattle.plane.specs.Plane.{Vector, pair, x, y}
 use Rattle.plane.specs.Lent.{vector_at}
 

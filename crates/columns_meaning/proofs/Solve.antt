@@ -7,8 +7,9 @@ use lib.Dec.{leb}
 use lib.ListN.{length}
 use borrow.Author.Tests.{le-leb}
 use Rattle.law.specs.Truth.{and_true}
-use Rattle.law.specs.Room.{enough_is, enough_of}
-use Rattle.law.specs.Refusal.{verdict, all_pass, none_fails, when}
+use Rattle.law.proofs.Room.{enough_is, enough_of}
+use Rattle.law.specs.Refusal.{verdict, when}
+use Rattle.law.proofs.Refusals.{all_pass, none_fails}
 use Rattle.law.specs.Promise.{by, outcome}
 use Rattle.gradient_definition.specs.Vectors.{zeros}
 use Rattle.gradient_doors.specs.Solving.{vectors_room}

@@ -7,10 +7,11 @@ use mathlib.Core.List.{List, ◌++◌}
 use lib.ListN.{length, drop}
 use lib.Seq.{take_at, drop_at}
 use lib.Ieee.{Float, lt, le, eq, ne}
-use Rattle.law.specs.Loop.{over_same}
+use Rattle.law.proofs.Loop.{over_same}
 use Rattle.law.specs.Truth.{both}
-use Rattle.law.specs.Gather.{gather, gather_same}
-use Rattle.law.specs.Mix.{length_parts}
+use Rattle.law.specs.Gather.{gather}
+use Rattle.law.proofs.Gather.{gather_same}
+use Rattle.law.proofs.Mix.{length_parts}
 use Rattle.plane.specs.Plane.{Vector, zero32, one32, zero_of, ◌⊕◌, ◌⊗◌, ◌⊘◌, dot_of, sub_of}
 use Rattle.plane.specs.Lent.{vector_at}
 use Rattle.vectors.specs.Whole.{dot_step, dot_all, lack_at}

@@ -10,8 +10,9 @@ use lib.ListN.{length}
 use borrow.Author.Tests.{eqb-true, eq-eqb, ne_eqb, lt-ltb}
 use Rattle.law.specs.Limit.{tally, unloaded}
 use Rattle.law.specs.Truth.{same_or}
-use Rattle.law.specs.Loop.{over_keeps, from}
-use Rattle.law.specs.Gather.{gather, up_to, up_to_none, up_to_more}
+use Rattle.law.proofs.Loop.{over_keeps, from}
+use Rattle.law.specs.Gather.{gather, up_to}
+use Rattle.law.proofs.Gather.{up_to_none, up_to_more}
 use Rattle.law.specs.Sum.{sum, bit, sum_none, sum_more, sum_same, sum_plus, sum_swap, none_of, one_of}
 use Rattle.matrix_shape.specs.Rows.{at}
 use Rattle.gradient_definition.specs.declared.Outcome.{Outcome}

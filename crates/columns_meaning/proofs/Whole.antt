@@ -9,8 +9,9 @@ use lib.Ieee.{Float}
 use borrow.Author.Tests.{lt-ltb}
 use Rattle.law.specs.Loop.{over, fold}
 use Rattle.law.specs.Every.{every}
-use Rattle.law.specs.Room.{enough_is, enough_of}
-use Rattle.law.specs.Refusal.{verdict, all_pass, none_fails}
+use Rattle.law.proofs.Room.{enough_is, enough_of}
+use Rattle.law.specs.Refusal.{verdict}
+use Rattle.law.proofs.Refusals.{all_pass, none_fails}
 use Rattle.law.specs.Promise.{Promise, by, outcome}
 use Rattle.step_entries.specs.Entries.{entries_room, below}
 use Rattle.columns_make.specs.Making.{In, Out, Ready, ready, making_room, later, refusals, in_order, ended_of, made, finished, work, door}

@@ -3,7 +3,8 @@ use Rattle.std.specs.Prelude.{ℕ, ◌≤◌, ◌≡◌, Bool, true, List, [], �
 use Rattle.std.proofs.Common.{arith}
 use Rattle.law.specs.Limit.{particles, envelope}
 use Rattle.law.specs.Number.{too_many_particles, short_buffer, bad_pattern, bad_plan, long_envelope, bad_settings}
-use Rattle.law.specs.Room.{Room, enough, enough_is}
+use Rattle.law.specs.Room.{Room, enough}
+use Rattle.law.proofs.Room.{enough_is}
 use Rattle.law.specs.Refusal.{Test, unless, Rising, when}
 use Rattle.matrix_shape.specs.Rows.{at}
 use Rattle.matrix_shape.specs.Given.{formed}

@@ -4,9 +4,11 @@ use Rattle.std.proofs.Common.{⊎_elim, arith, leb-true, ltb-true, le-leb}
 use Rattle.std.proofs.lemmas.Bool.{not-true, not-false}
 use Rattle.law.specs.Limit.{particles, columns, unloaded}
 use Rattle.law.specs.Number.{too_many_particles, too_many_entries, short_buffer, out_of_range, bad_plan}
-use Rattle.law.specs.Room.{Room, enough, enough_is}
+use Rattle.law.specs.Room.{Room, enough}
+use Rattle.law.proofs.Room.{enough_is}
 use Rattle.law.specs.Truth.{both, and_true, below_or, clash}
-use Rattle.law.specs.Refusal.{Test, unless, Rising, verdict, all_pass}
+use Rattle.law.specs.Refusal.{Test, unless, Rising, verdict}
+use Rattle.law.proofs.Refusals.{all_pass}
 use Rattle.law.specs.Promise.{Door}
 use Rattle.law.specs.Said.{Said}
 use Rattle.matrix_shape.specs.Rows.{at}

@@ -10,8 +10,9 @@ use Rattle.std.proofs.Math.Seq.{get_or-set_other}
 use Rattle.std.proofs.lemmas.Bool.{lt-leb, not-true, not-false}
 use Rattle.law.specs.Limit.{columns, unloaded}
 use Rattle.law.specs.Truth.{both, and_true, or_left, or_right, same_or, untrue, clash}
-use Rattle.law.specs.Loop.{over_same, from}
-use Rattle.law.specs.Every.{every, every_none, every_more, every_at, every_of}
+use Rattle.law.proofs.Loop.{over_same, from}
+use Rattle.law.specs.Every.{every}
+use Rattle.law.proofs.Every.{every_none, every_more, every_at, every_of}
 use Rattle.law.specs.Sum.{sum, bit, sum_none, sum_more}
 use Rattle.matrix_shape.specs.Rows.{at}
 use Rattle.columns_table.specs.Table.{entry_ok, times, numbered, table_ok}

@@ -10,7 +10,8 @@ use Rattle.std.proofs.Math.Dec.{eqb}
 use borrow.Author.Tests.{leb-true, le-leb, ltb-true, lt-ltb, eqb-true, eq-eqb, ne_eqb}
 use Rattle.law.specs.Limit.{columns, unloaded}
 use Rattle.law.specs.Truth.{both, and_true, either, or_left, or_right, holds_or, same_or, alike}
-use Rattle.law.specs.Every.{every, every_at, every_of}
+use Rattle.law.specs.Every.{every}
+use Rattle.law.proofs.Every.{every_at, every_of}
 use Rattle.law.specs.Sum.{sum, bit, sum_same, sum_most, sum_plus, one_of}
 use Rattle.matrix_shape.specs.Rows.{at}
 use Rattle.columns_table.specs.Table.{Numbered, entry_ok, times, numbered, table_ok}

@@ -9,13 +9,15 @@ use lib.ListN.{length, get_or, drop, length-append, length-drop, get_or-append}
 use lib.Seq.{drop_at, get_or-drop, ext_get_or}
 use lib.Ieee.{Float, nan}
 use borrow.Author.Tests.{leb-true, le-leb}
-use Rattle.law.specs.Loop.{from}
+use Rattle.law.proofs.Loop.{from}
 use Rattle.law.specs.Truth.{below_or}
-use Rattle.law.specs.Room.{enough_is}
-use Rattle.law.specs.Promise.{Promise, one_outcome, zero_is, zero_from, accepts, IsWork, IsRefusal, work_or_refusal}
+use Rattle.law.proofs.Room.{enough_is}
+use Rattle.law.specs.Promise.{Promise, IsWork, IsRefusal}
+use Rattle.law.proofs.Promise.{one_outcome, zero_is, zero_from, accepts, work_or_refusal}
 use Rattle.matrix_shape.specs.Rows.{at, Pattern}
 use Rattle.matrix_shape.specs.Given.{pattern}
-use Rattle.plan_fits.specs.Fits.{Fits, fits_is}
+use Rattle.plan_fits.specs.Fits.{Fits}
+use Rattle.plan_fits.proofs.Fits.{fits_is}
 use Rattle.plan_fits.specs.Given.{factor_length}
 use Rattle.plan_fits.specs.Cells.{Skyline, skyline_of, Cell, place, held}
 use Rattle.factor_load.specs.Permuted.{Matrix}

@@ -10,20 +10,24 @@ use lib.ListN.{length, get_or, length-append, length-drop, get_or-append}
 use lib.Seq.{drop_at}
 use lib.Ieee.{Float, nan}
 use borrow.Author.Tests.{leb-true, le-leb}
-use Rattle.law.specs.Loop.{over_same, from}
+use Rattle.law.proofs.Loop.{over_same, from}
 use Rattle.law.specs.Truth.{below_or, same_or}
-use Rattle.law.specs.Gather.{gather, gather_at, up_to_even}
-use Rattle.law.specs.Mix.{length_parts, length_mix}
-use Rattle.law.specs.Room.{enough_is}
-use Rattle.law.specs.Promise.{Promise, one_outcome, zero_is, zero_from, accepts, IsWork, work_or_refusal}
+use Rattle.law.specs.Gather.{gather}
+use Rattle.law.proofs.Gather.{gather_at, up_to_even}
+use Rattle.law.proofs.Mix.{length_parts, length_mix}
+use Rattle.law.proofs.Room.{enough_is}
+use Rattle.law.specs.Promise.{Promise, IsWork}
+use Rattle.law.proofs.Promise.{one_outcome, zero_is, zero_from, accepts, work_or_refusal}
 use Rattle.plane.specs.Plane.{◌⊘◌, zero_of}
 use Rattle.plane.specs.Lent.{vector_at}
 use Rattle.matrix_shape.specs.Rows.{at}
-use Rattle.plan_fits.specs.Fits.{PlanRules, planned_is}
+use Rattle.plan_fits.specs.Fits.{PlanRules}
+use Rattle.plan_fits.proofs.Fits.{planned_is}
 use Rattle.plan_fits.specs.Cells.{look}
 use Rattle.factor_load.specs.Permuted.{Matrix}
 use Rattle.factor_passes.specs.Passes.{forward_by, forward_of}
-use Rattle.factor_passes.specs.PassMeaning.{summed, forward_long, forward_is, less_of, owed, backward_is}
+use Rattle.factor_passes.specs.PassMeaning.{less_of, owed}
+use Rattle.factor_passes.proofs.PassMeaning.{summed, forward_long, forward_is, backward_is}
 use Rattle.factor_substitution.specs.Solve.{permuted, placed_of, solve_of}
 use Rattle.factor_substitution.specs.Meaning.{solve_gives}
 use Rattle.factor_doors.specs.Solving.{In, Out, values_room, refusals, work, door}

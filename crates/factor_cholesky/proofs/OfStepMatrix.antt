@@ -6,9 +6,12 @@ use mathlib.Core.Logic.{inl, inr, ⊎_elim}
 use lib.Ieee.{Float}
 use borrow.Author.Tests.{leb-true, le-leb, lt-leb}
 use Rattle.law.specs.Truth.{both, and_true, below_or}
-use Rattle.law.specs.Room.{enough, enough_is, enough_of}
-use Rattle.law.specs.Refusal.{Passed, when, when_is}
-use Rattle.law.specs.Promise.{Promise, one_outcome, zero_is, zero_from, accepts, IsRefusal, work_or_refusal}
+use Rattle.law.specs.Room.{enough}
+use Rattle.law.proofs.Room.{enough_is, enough_of}
+use Rattle.law.specs.Refusal.{Passed, when}
+use Rattle.law.proofs.Refusals.{when_is}
+use Rattle.law.specs.Promise.{Promise, IsRefusal}
+use Rattle.law.proofs.Promise.{one_outcome, zero_is, zero_from, accepts, work_or_refusal}
 use Rattle.matrix_shape.specs.Rows.{at}
 use Rattle.plan_fits.specs.Given.{plan_room}
 use Rattle.plan_fits.specs.Cells.{Cell}

@@ -8,7 +8,8 @@ use Rattle.law.specs.Every.{every, some}
 use Rattle.law.specs.Gather.{gather}
 use Rattle.law.specs.Room.{enough}
 use Rattle.law.specs.Refusal.{verdict, when}
-use Rattle.law.specs.Promise.{outcome, some_outcome}
+use Rattle.law.specs.Promise.{outcome}
+use Rattle.law.proofs.Promise.{some_outcome}
 use Rattle.root.specs.Sqrt.{sqrt_of}
 use Rattle.plane.specs.Plane.{zero32, one32}
 use Rattle.flat_runs.specs.Run.{dot_run}

@@ -3,13 +3,16 @@ use Rattle.std.specs.Prelude.{ℕ, ◌*◌, ◌≤◌, ◌<◌, ◌≡◌, true,
 use Rattle.std.proofs.Common.{ap, arith, leb-true}
 use Rattle.law.specs.Limit.{particles, envelope}
 use Rattle.law.specs.Number.{too_many_particles, short_buffer, bad_pattern, bad_plan, long_envelope}
-use Rattle.law.specs.Room.{Room, enough, enough_is}
-use Rattle.law.specs.Refusal.{Test, unless, Rising, verdict, all_pass}
+use Rattle.law.specs.Room.{Room, enough}
+use Rattle.law.proofs.Room.{enough_is}
+use Rattle.law.specs.Refusal.{Test, unless, Rising, verdict}
+use Rattle.law.proofs.Refusals.{all_pass}
 use Rattle.law.specs.Promise.{Door}
 use Rattle.law.specs.Said.{Said}
 use Rattle.matrix_shape.specs.Rows.{at}
 use Rattle.matrix_shape.specs.Given.{pattern_room, formed, pattern}
-use Rattle.plan_fits.specs.Fits.{Fits, fits_ok, fits_is}
+use Rattle.plan_fits.specs.Fits.{Fits, fits_ok}
+use Rattle.plan_fits.proofs.Fits.{fits_is}
 use Rattle.plan_fits.specs.Lists.{Laid}
 use Rattle.plan_fits.specs.Given.{plan_room, factor_length, laid}
 use Rattle.factor_load.specs.Load.{Loads, loads_of}

@@ -4,14 +4,17 @@ use Rattle.std.proofs.Common.{ap, arith, leb-true}
 use Rattle.law.specs.Limit.{particles, envelope}
 use Rattle.law.specs.Mix.{mix}
 use Rattle.law.specs.Number.{too_many_particles, short_buffer, bad_plan, long_envelope}
-use Rattle.law.specs.Room.{Room, enough, enough_is}
-use Rattle.law.specs.Refusal.{Test, unless, Rising, verdict, all_pass}
+use Rattle.law.specs.Room.{Room, enough}
+use Rattle.law.proofs.Room.{enough_is}
+use Rattle.law.specs.Refusal.{Test, unless, Rising, verdict}
+use Rattle.law.proofs.Refusals.{all_pass}
 use Rattle.law.specs.Promise.{Door}
 use Rattle.law.specs.Said.{Said}
 use Rattle.plane.specs.Plane.{zero_of}
 use Rattle.matrix_shape.specs.Rows.{at}
 use Rattle.plan_fits.specs.Fits.{plan_rules_ok}
-use Rattle.plan_fits.specs.Lists.{Plan, plan_of}
+use Rattle.plan_fits.specs.Lists.{Plan}
+use Rattle.plan_fits.proofs.Lists.{plan_of}
 use Rattle.plan_fits.specs.Given.{plan_room, factor_length, laid}
 use Rattle.factor_substitution.specs.Solve as substitution
 use Rattle.factor_substitution.specs.Solve.{solve_of, solved_of}

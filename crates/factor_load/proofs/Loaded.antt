@@ -9,7 +9,7 @@ use native.Mathlib.Nat.{add-zero}
 use borrow.Author.Tests.{lt-ltb, le-ltb}
 use lib.ListN.{length, get_or, set, replicate, length-set, length-replicate, get_or-replicate}
 use lib.Ieee.{Float, nan}
-use Rattle.law.specs.Loop.{over_holds}
+use Rattle.law.proofs.Loop.{over_holds}
 use Rattle.law.specs.Truth.{below_or, same_or}
 use Rattle.plane.specs.Plane.{x, y, c0, c1, zero32}
 use Rattle.plane.specs.Lent.{block_at}

@@ -8,7 +8,8 @@ use native.Mathlib.Omega.{arith}
 use native.Mathlib.Nat.{le_refl}
 use lib.ListN.{length, get_or, set, length-set}
 use lib.Ieee.{Float, nan, lt}
-use Rattle.law.specs.Loop.{over, over_same, over_shift, over_keeps, over_holds}
+use Rattle.law.specs.Loop.{over}
+use Rattle.law.proofs.Loop.{over_same, over_shift, over_keeps, over_holds}
 use Rattle.law.specs.Truth.{below_or}
 use Rattle.plane.specs.Plane.{◌⊖◌, ◌⊗◌, zero32}
 use Rattle.flat_runs.specs.Run.{run_step, dot_run}

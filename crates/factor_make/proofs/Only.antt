@@ -7,7 +7,7 @@ use mathlib.Core.Logic.{⊎_elim}
 use native.Mathlib.Omega.{arith}
 use native.Mathlib.Nat.{le_refl}
 use lib.Ieee.{Float, lt}
-use Rattle.law.specs.Loop.{from}
+use Rattle.law.proofs.Loop.{from}
 use Rattle.law.specs.Truth.{below_or}
 use Rattle.plane.specs.Plane.{zero32}
 use Rattle.root.specs.Sqrt.{sqrt_of}

@@ -1,1 +1,3 @@
 mod PassReadings
+pub mod Held
+pub mod PassMeaning

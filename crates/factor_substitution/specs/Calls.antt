@@ -4,7 +4,8 @@ use Rattle.std.proofs.Math.Path.{ap}
 use Rattle.std.proofs.Common.{◌∙◌}
 use mathlib.Core.List.{List}
 use Rattle.law.specs.Gather.{gather}
-use Rattle.law.specs.Mix.{mix, mix_whole}
+use Rattle.law.specs.Mix.{mix}
+use Rattle.law.proofs.Mix.{mix_whole}
 use Rattle.plane.specs.Plane.{zero_of}
 use Rattle.plane.specs.Lent.{vector_at}
 use Rattle.plan_fits.specs.Cells.{look}

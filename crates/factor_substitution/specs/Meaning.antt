@@ -2,7 +2,8 @@
 use Rattle.std.specs.Prelude.{ℕ, ◌+◌, ◌*◌, ◌<◌, ◌≡◌, refl, List, get_or, Float}
 use Rattle.std.proofs.Common.{ap, ◌∙◌, arith, add-zero}
 use Rattle.std.specs.Float.{nan}
-use Rattle.law.specs.Gather.{gather_at, up_to, up_to_even}
+use Rattle.law.specs.Gather.{up_to}
+use Rattle.law.proofs.Gather.{gather_at, up_to_even}
 use Rattle.plane.specs.Lent.{vector_at}
 use Rattle.plan_fits.specs.Fits.{PlanRules}
 use Rattle.factor_substitution.specs.Solve.{permuted, placed_of, solve_of}

@@ -4,7 +4,8 @@ use Rattle.std.specs.Prelude.{ℕ, zero, suc, ◌+◌, ◌*◌, ◌≤◌, ◌<�
 use Rattle.std.proofs.Common.{arith, add-zero, sym, ◌∙◌}
 use Rattle.std.specs.Float.{nan}
 use Rattle.law.specs.Gather.{gather}
-use Rattle.law.specs.Mix.{mix, mix_of, mix_whole}
+use Rattle.law.specs.Mix.{mix}
+use Rattle.law.proofs.Mix.{mix_of, mix_whole}
 use Rattle.plane.specs.Plane.{zero_of}
 use Rattle.plane.specs.Lent.{vector_at}
 use Rattle.vectors.specs.Whole.{lack_at}

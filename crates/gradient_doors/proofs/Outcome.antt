@@ -1,6 +1,7 @@
 -- ONE OUTCOME of each public call, by the contract that its own theorem cites.
 use mathlib.Core.Path.{refl}
-use Rattle.law.specs.One.{OneOutcome, plainly, past, of_door}
+use Rattle.law.specs.One.{OneOutcome, past}
+use Rattle.law.proofs.One.{plainly, of_door}
 use Rattle.gradient_doors.specs.Updating as updating
 use Rattle.gradient_doors.specs.Solving as solving
 use Rattle.gradient_doors.specs.contracts.update_preconditioner as update-preconditioner

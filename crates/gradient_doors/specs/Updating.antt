@@ -2,8 +2,9 @@
 use Rattle.std.specs.Prelude.{ℕ, ◌*◌, ◌≤◌, ◌≡◌, true, List, length, Float}
 use Rattle.std.proofs.Common.{arith, leb-true}
 use Rattle.law.specs.Mix.{mix}
-use Rattle.law.specs.Room.{enough_is}
-use Rattle.law.specs.Refusal.{verdict, all_pass}
+use Rattle.law.proofs.Room.{enough_is}
+use Rattle.law.specs.Refusal.{verdict}
+use Rattle.law.proofs.Refusals.{all_pass}
 use Rattle.law.specs.Promise.{Door}
 use Rattle.law.specs.Said.{Said}
 use Rattle.matrix_shape.specs.Rows.{at, Pattern, row_end}

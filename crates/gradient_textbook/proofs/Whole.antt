@@ -4,7 +4,8 @@ use Prim.Native.Nat.{ℕ}
 use native.Mathlib.Omega.{arith}
 use mathlib.Core.Path.{◌≡◌, refl, ap}
 use mathlib.Core.Logic.{⊎_elim}
-use Rattle.law.specs.Promise.{IsWork, work_or_refusal}
+use Rattle.law.specs.Promise.{IsWork}
+use Rattle.law.proofs.Promise.{work_or_refusal}
 use Rattle.gradient_definition.specs.declared.Outcome.{Outcome}
 use Rattle.gradient_definition.specs.Solve.{run}
 use Rattle.gradient_doors.specs.declared.Solved.{Solved}

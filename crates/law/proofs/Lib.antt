@@ -1,1 +1,13 @@
 pub mod Outcome
+pub mod Along
+pub mod Every
+pub mod Find
+pub mod Gather
+pub mod Keep
+pub mod Loop
+pub mod Mix
+pub mod One
+pub mod Promise
+pub mod Refusals
+pub mod Room
+pub mod Store

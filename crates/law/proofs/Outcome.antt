@@ -1,6 +1,7 @@
 -- ONE OUTCOME of the public call, by the contract that its own theorem cites.
 use mathlib.Core.Path.{refl, ap}
-use Rattle.law.specs.One.{OneOutcome, plainly, past}
+use Rattle.law.specs.One.{OneOutcome, past}
+use Rattle.law.proofs.One.{plainly}
 use Rattle.law.specs.contracts.wide as wide
 
 -- that the number is small is what its type says

@@ -10,15 +10,3 @@ use Rattle.law.specs.Loop.{fold, over}
 unfoldable pub along : {A S : Type 0} → (A → S → S) → S → List A → S
 along f s [] = s
 along f s (a ∷ l) = along f (f a s) l
-
-module _ {A S : Type 0} (f : A → S → S) (d : A) (l : List A) (z : S) where
-  rest : (k : ℕ) → k ≤ length l → along f (fold (λ i. f (get_or l i d)) 0 k z) (drop k l) ≡ along f z l
-  unfolding along fold
-  rest zero h = refl
-  rest (suc k) h =
-      let ih = rest k (omega arith) in
-      rw zero-add (rw (drop-cons l k d (omega arith)) at ih)
-
-  pub over_list : over (λ i. f (get_or l i d)) 0 (length l) z ≡ along f z l
-  unfolding over along
-  over_list = rw sub-zero (rw (drop-length l) at (rest (length l) (omega arith)))

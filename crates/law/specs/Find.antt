@@ -7,7 +7,7 @@ use Rattle.std.proofs.Math.Bool.{true, false}
 use Rattle.std.proofs.Math.Logic.{⊎_elim}
 use native.Mathlib.Omega.{arith}
 use Rattle.law.specs.Truth.{below_or}
-use Rattle.law.specs.Every.{some, some_at, some_of}
+use Rattle.law.specs.Every.{some}
 
 -- among n numbers from a on, d where none passes. What a `let` binds waits, so nothing past the first is looked at
 unfoldable pub seek : (ℕ → Bool) → ℕ → ℕ → ℕ → ℕ
@@ -41,7 +41,7 @@ module _ (p : ℕ → Bool) (d : ℕ) where
   find_first a b k l m t h = seek_first (b - a) a k l (omega arith) t h
 
   -- one that passes keeps the answer within the range
-  seek_in : (n a k : ℕ) → a ≤ k → k < a + n → p k ≡ true → (a ≤ seek p a n d) × (seek p a n d < a + n)
+  pub seek_in : (n a k : ℕ) → a ≤ k → k < a + n → p k ≡ true → (a ≤ seek p a n d) × (seek p a n d < a + n)
   unfolding seek
   seek_in zero a k l m t = absurd (omega arith)
   seek_in (suc n) a k l m t = here (p a) refl (λ h. seek_in n (suc a) k h (omega arith) t)
@@ -53,19 +53,3 @@ module _ (p : ℕ → Bool) (d : ℕ) where
           let h : suc a ≤ k = ⊎_elim (λ g. g) (λ g. absurd (let q : a ≡ k = omega arith in let z : ◌≡◌ {A = ℕ} 0 1 = cc in omega arith)) (below_or a k) in
           let i = later h in
           rw e (omega arith)
-
-  -- where d is none of the range, the answer d says that none passes
-  pub find_tells : (a b : ℕ) → b ≤ d → some p a b ≡ not (eqb (find p a b d) d)
-  unfolding find
-  find_tells a b h = tells (some p a b) refl
-    where
-      no : (j : ℕ) → a ≤ j → j < b → some p a b ≡ false → (x : Bool) → p j ≡ x → x ≡ false
-      no j l m e true t = sym (some_of p a b j l m t) ∙ e
-      no j l m e false t = refl
-
-      tells : (x : Bool) → some p a b ≡ x → x ≡ not (eqb (find p a b d) d)
-      tells true e =
-          let w = some_at p a b e in
-          let i = seek_in (b - a) a w.0 w.1.0 (omega (arith, w.1.0, w.1.1.0)) w.1.1.1 in
-          rw (ne_eqb (seek p a (b - a) d) d (λ q. omega (arith, i.1, w.1.0, w.1.1.0)))
-      tells false e = rw (eq-eqb (find p a b d) d (find_none a b (λ j l m. no j l m e (p j) refl)))

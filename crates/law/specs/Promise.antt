@@ -5,7 +5,7 @@ use Rattle.std.proofs.Common.{sym, ◌∙◌}
 use Rattle.std.proofs.Math.Logic.{inl, inr}
 use native.Mathlib.Omega.{arith}
 use Prim.Native.Nat.{ℕ, zero, suc, ◌≤◌, ◌<◌}
-use Rattle.law.specs.Refusal.{Test, verdict, Rising, Passed, Fails, all_pass, none_fails, it_fails, it_is_lowest}
+use Rattle.law.specs.Refusal.{Test, verdict, Rising, Passed, Fails}
 
 -- a door: its list of refusals, whose numbers never fall; its work; and what a refusal answers and leaves
 pub record Door (I O : Type 0) : Type 1 where
@@ -27,50 +27,9 @@ outcome d i = by (verdict (d.tests i)) (d.work i) (λ k. d.refuse k i)
 abbrev pub Promise : {I O : Type 0} → Door I O → I → O → Type 0
 Promise d i o = o ≡ outcome d i
 
--- EVERY PROMISE ADMITS ONE OUTCOME, and not none
-pub one_outcome : {I O : Type 0} (d : Door I O) (i : I) (o p : O) → Promise d i o → Promise d i p → o ≡ p
-one_outcome d i o p h g = h ∙ sym g
-
-pub some_outcome : {I O : Type 0} (d : Door I O) (i : I) → Promise d i (outcome d i)
-some_outcome d i = refl
-
--- WHAT A DOOR'S NUMBER MEANS: 0 is all the tests, both ways; any other is the lowest number among the tests that fail
-module _ {I O : Type 0} (d : Door I O) (i : I) where
-  pub zero_is : verdict (d.tests i) ≡ 0 → Passed (d.tests i)
-  zero_is h = all_pass 1 (d.tests i) (omega arith) (d.in_order i) h
-
-  pub zero_from : Passed (d.tests i) → verdict (d.tests i) ≡ 0
-  zero_from h = none_fails (d.tests i) h
-
-  pub lowest_first : (k : ℕ) → Fails (d.tests i) k → verdict (d.tests i) ≤ k
-  lowest_first k f = it_is_lowest 1 (d.tests i) (d.in_order i) k f
-
-  pub given_exactly : 0 < verdict (d.tests i) → Fails (d.tests i) (verdict (d.tests i))
-  given_exactly h = it_fails (d.tests i) h
-
--- THE TWO RETURNS of a door's code: r is the number that its refusal function answered
-module _ {I O : Type 0} (d : Door I O) (i : I) (r : ℕ) (e : r ≡ verdict (d.tests i)) where
-  leads : (k : ℕ) → (k ≡ 0 → ⊥) → d.refuse k i ≡ by k (d.work i) (λ j. d.refuse j i)
-  leads zero h = absurd (h refl)
-  leads (suc k) h = refl
-
-  pub refuses : (r ≡ 0 → ⊥) → Promise d i (d.refuse r i)
-  unfolding outcome
-  refuses h = leads r h ∙ ap (λ (k : ℕ). by k (d.work i) (λ j. d.refuse j i)) e
-
-  pub accepts : r ≡ 0 → (o : O) → o ≡ d.work i → Promise d i o
-  unfolding outcome
-  accepts g o h = h ∙ ap (λ (k : ℕ). by k (d.work i) (λ j. d.refuse j i)) (sym g ∙ e)
-
 -- A DOOR THAT COUNTS: besides its promise, a lent record t becomes what `counts` makes of it and the outcome
 abbrev pub Counted : {I O T : Type 0} → Door I O → (T → O → T) → I → T → O → T → Type 0
 Counted d counts i t o u = Promise d i o × (u ≡ counts t o)
-
-pub one_count : {I O T : Type 0} (d : Door I O) (counts : T → O → T) (i : I) (t : T) (o p : O) (u v : T) → Counted d counts i t o u
-    → Counted d counts i t p v → (o ≡ p) × (u ≡ v)
-one_count d counts i t o p u v h g =
-    let e : o ≡ p = one_outcome d i o p h.0 g.0 in
-    (e, h.1 ∙ ap (counts t) e ∙ sym g.1)
 
 -- WHAT A PROMISE SAYS OF AN OUTCOME: it is the work, and the number is 0; or it is the refusal by the number, which is above 0
 module _ {I O : Type 0} (d : Door I O) (i : I) (o : O) where
@@ -79,11 +38,3 @@ module _ {I O : Type 0} (d : Door I O) (i : I) (o : O) where
 
   abbrev pub IsRefusal : ℕ → Type 0
   IsRefusal k = (0 < k) × ((verdict (d.tests i) ≡ k) × (o ≡ d.refuse k i))
-
-  pub work_or_refusal : Promise d i o → IsWork ⊎ ((k : ℕ) × IsRefusal k)
-  unfolding outcome
-  work_or_refusal = go (verdict (d.tests i)) refl
-    where
-      go : (k : ℕ) → verdict (d.tests i) ≡ k → o ≡ by k (d.work i) (λ j. d.refuse j i) → IsWork ⊎ ((k : ℕ) × IsRefusal k)
-      go zero e h = inl (e, h)
-      go (suc k) e h = inr (suc k, (omega arith, (e, h)))

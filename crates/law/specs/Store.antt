@@ -11,7 +11,7 @@ use Rattle.std.proofs.Math.ListN.{length, get_or, drop, get_or-append}
 use Rattle.std.proofs.lemmas.List.{length-replicate, replicate-append-replicate}
 use Rattle.std.proofs.lemmas.List.Edits.{sets, sets-eq}
 use Rattle.std.proofs.Math.Seq.{length-sets, drop-length, drop-set-lt, length-take-le, get_or-set_other}
-use Rattle.law.specs.Gather.{gather, gather_none, gather_more, up_to, table, up_to_table}
+use Rattle.law.specs.Gather.{gather, up_to, table}
 
 module _ {A : Type 0} where
   -- vs stored one by one from place i on. It is `sets`, shut, so that what stands in it is found by matching
@@ -61,18 +61,6 @@ module _ {A : Type 0} where
   drop_written n l i [] h = refl
   drop_written n l i (v ∷ vs) h = drop_written n (set l i v) (suc i) vs (omega arith) ∙ drop-set-lt n l i v (omega arith)
 
-  -- before the first part
-  pub write_none : (g : ℕ → List A) (l : List A) (i a : ℕ) → l ≡ written l i (gather g a a)
-  unfolding written
-  write_none g l i a = ap (λ (t : List A). written l i t) (gather_none g a)
-
-  -- the next part, behind those before it
-  pub write_more : (g : ℕ → List A) (l : List A) (r : ℕ) → written (written l 0 (gather g 0 r)) (up_to g r) (g r) ≡ written l 0 (gather g 0 (r + 1))
-  unfolding up_to
-  write_more g l r =
-      let z : 0 + length (gather g 0 r) ≡ length (gather g 0 r) = zero-add _ in
-      rw z at (written_append l 0 (gather g 0 r) (g r)) ∙ ap (λ (t : List A). written l 0 t) (gather_more g 0 r (omega arith))
-
   -- ---- lengths after stores: m is the buffer l after the store
 
   pub set_long : (l : List A) (i : ℕ) (v : A) (m : List A) → m ≡ set l i v → length m ≡ length l
@@ -100,15 +88,6 @@ module _ {A : Type 0} where
 
   pub part_at : (a b : ℕ) (l : List A) (j : ℕ) (d : A) → j < b - a → get_or (part a b l) j d ≡ get_or l (a + j) d
   part_at a b l j d h = get_or-take (b - a) (drop a l) j d h ∙ get_or-drop a l j d
-
--- the next entry of a table
-pub table_more : (f : ℕ → ℕ) (l : List ℕ) (r : ℕ) → set (written l 0 (table f r)) r (f r) ≡ written l 0 (table f (r + 1))
-unfolding written
-table_more f l r = let e : up_to (λ i. f i ∷ []) r ≡ r = up_to_table f r in rw e at (write_more (λ i. f i ∷ []) l r)
-
--- the same as a loop's turn has it: x is the buffer at the loop's head, v the entry
-pub table_turn : (f : ℕ → ℕ) (l x : List ℕ) (r v : ℕ) → x ≡ written l 0 (table f r) → v ≡ f r → set x r v ≡ written l 0 (table f (r + 1))
-table_turn f l x r v e q = ap (λ (t : List ℕ). set t r v) e ∙ ap (λ (k : ℕ). set (written l 0 (table f r)) r k) q ∙ table_more f l r
 
 -- one place more of a buffer that is filled with one value from the front
 pub filled_more : {A : Type 0} (k : ℕ) (v : A) (l : List A) → k < length l → set (replicate k v ++ drop k l) k v ≡ replicate (k + 1) v ++ drop (k + 1) l

@@ -6,8 +6,10 @@ use Rattle.std.proofs.Math.Bool.{true, false}
 use Rattle.std.proofs.Math.ListN.{length}
 use borrow.Author.Tests.{eqb-false, ne_eqb, not-true}
 use Rattle.law.specs.Truth.{both}
-use Rattle.law.specs.Gather.{gather_split, up_to}
-use Rattle.law.specs.Keep.{only_if, keep, rank, keep_in, keep_same}
+use Rattle.law.specs.Gather.{up_to}
+use Rattle.law.proofs.Gather.{gather_split}
+use Rattle.law.specs.Keep.{only_if, keep, rank}
+use Rattle.law.proofs.Keep.{keep_in, keep_same}
 use Rattle.law.specs.Store.{written, written_append, written_one}
 use Rattle.matrix_shape.specs.Made.{row_of, start_of, starts_of, cols_of, slots_of}
 use Rattle.matrix_pairs.specs.Pairs.{joined, stored_by, own}

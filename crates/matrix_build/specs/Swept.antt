@@ -2,9 +2,11 @@
 use Rattle.std.specs.Prelude.{ℕ, ◌+◌, ◌-◌, ◌*◌, ◌≤◌, ◌<◌, ◌≡◌, refl, true, List, [], ◌∷◌, ◌++◌, length, get_or, set}
 use Rattle.std.proofs.Common.{ap, sym, ◌∙◌, arith, length-append}
 use Rattle.law.specs.Truth.{untrue}
-use Rattle.law.specs.Gather.{gather_none}
-use Rattle.law.specs.Keep.{only_if, keep, keep_in, keep_skip, keep_room}
-use Rattle.law.specs.Store.{written, written_one, write_none}
+use Rattle.law.proofs.Gather.{gather_none}
+use Rattle.law.specs.Keep.{only_if, keep}
+use Rattle.law.proofs.Keep.{keep_in, keep_skip, keep_room}
+use Rattle.law.specs.Store.{written, written_one}
+use Rattle.law.proofs.Store.{write_none}
 use Rattle.matrix_lists.specs.Ways.{apart}
 use Rattle.matrix_lists.specs.Chain.{front_of, None, Chain, chain_front, chain_link, chain_raise, chain_lower}
 

@@ -1,2 +1,4 @@
 mod Readings
 mod SaidReadings
+pub mod Building
+pub mod FromPairs

@@ -1,6 +1,7 @@
 -- ONE OUTCOME of each public call, by the contract that its own theorem cites.
 use mathlib.Core.Path.{refl}
-use Rattle.law.specs.One.{OneOutcome, plainly, past, of_door}
+use Rattle.law.specs.One.{OneOutcome, past}
+use Rattle.law.proofs.One.{plainly, of_door}
 use Rattle.matrix_building.specs.FromPairs as frompairs
 use Rattle.matrix_building.specs.Building as building
 use Rattle.matrix_doors.specs.Indexing as indexing

@@ -4,8 +4,10 @@ use Rattle.std.proofs.Common.{arith, leb-true, ltb-true}
 use Rattle.law.specs.Limit.{particles}
 use Rattle.law.specs.Mix.{mix}
 use Rattle.law.specs.Number.{too_many_particles, short_buffer, out_of_range, bad_pattern}
-use Rattle.law.specs.Room.{enough, enough_is}
-use Rattle.law.specs.Refusal.{Test, unless, Rising, verdict, all_pass}
+use Rattle.law.specs.Room.{enough}
+use Rattle.law.proofs.Room.{enough_is}
+use Rattle.law.specs.Refusal.{Test, unless, Rising, verdict}
+use Rattle.law.proofs.Refusals.{all_pass}
 use Rattle.law.specs.Promise.{Door}
 use Rattle.law.specs.Said.{Said}
 use Rattle.matrix_shape.specs.Rows.{at, Pattern}

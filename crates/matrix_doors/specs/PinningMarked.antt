@@ -3,14 +3,16 @@ use Rattle.std.specs.Prelude.{ℕ, ◌*◌, ◌≡◌, true, List, [], ◌∷◌
 use Rattle.std.proofs.Common.{arith, leb-true}
 use Rattle.law.specs.Limit.{particles}
 use Rattle.law.specs.Number.{too_many_particles, short_buffer, bad_pattern}
-use Rattle.law.specs.Room.{Room, enough, enough_is}
-use Rattle.law.specs.Refusal.{Test, unless, Rising, verdict, all_pass}
+use Rattle.law.specs.Room.{Room, enough}
+use Rattle.law.proofs.Room.{enough_is}
+use Rattle.law.specs.Refusal.{Test, unless, Rising, verdict}
+use Rattle.law.proofs.Refusals.{all_pass}
 use Rattle.law.specs.Promise.{Door}
 use Rattle.law.specs.Said.{Said}
 use Rattle.matrix_shape.specs.Rows.{at}
 use Rattle.matrix_shape.specs.Given.{pattern_room, formed, pattern}
 use Rattle.matrix_pinned.specs.Marked.{pinned_marked, Marked, Pins, Reach}
-use Rattle.matrix_pinned.specs.AnyOrder.{marked_pins}
+use Rattle.matrix_pinned.proofs.AnyOrder.{marked_pins}
 use Rattle.matrix_doors.specs.declared.Ran.{Ran}
 use Rattle.matrix_doors.specs.declared.Ran.TheVariants.{Refused, Done}
 use Rattle.matrix_doors.specs.Said.{ran_said}

@@ -7,10 +7,12 @@ use Rattle.std.proofs.Common.{◌∙◌, arith, eq-eqb, ne_eqb, eqb-true, ltb-tr
 use Rattle.std.proofs.Math.Bool.{Bool, or_comm, or_assoc}
 use Rattle.std.proofs.Math.Logic.{inl, inr, ⊎_elim}
 use Rattle.std.proofs.Math.Dec.{eqb}
-use Rattle.law.specs.Loop.{from}
+use Rattle.law.proofs.Loop.{from}
 use Rattle.law.specs.Truth.{both, and_true, either, or_left, or_right}
-use Rattle.law.specs.Every.{every, every_at, some, some_at, some_of, some_none, some_more}
-use Rattle.law.specs.Gather.{up_to, up_to_none, up_to_more, up_to_sum, single}
+use Rattle.law.specs.Every.{every, some}
+use Rattle.law.proofs.Every.{every_at, some_at, some_of, some_none, some_more}
+use Rattle.law.specs.Gather.{up_to}
+use Rattle.law.proofs.Gather.{up_to_none, up_to_more, up_to_sum, single}
 use Rattle.law.specs.Keep.{only_if, at_most_one, rank}
 use Rattle.matrix_shape.specs.Formed.{WellFormed}
 use Rattle.matrix_shape.specs.Rows.{at}

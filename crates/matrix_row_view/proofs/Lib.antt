@@ -1,2 +1,4 @@
 mod Readings
 pub mod Outcome
+pub mod Finding
+pub mod Meaning

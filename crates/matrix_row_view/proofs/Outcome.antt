@@ -1,6 +1,7 @@
 -- ONE OUTCOME of each public call, by the contract that its own theorem cites.
 use mathlib.Core.Path.{refl}
-use Rattle.law.specs.One.{OneOutcome, plainly, past, of_door}
+use Rattle.law.specs.One.{OneOutcome, past}
+use Rattle.law.proofs.One.{plainly, of_door}
 use Rattle.matrix_row_view.specs.Showing as showing
 use Rattle.matrix_row_view.specs.contracts.row_span as row-span
 use Rattle.matrix_row_view.specs.contracts.row_col as row_col

@@ -8,7 +8,8 @@ use native.Mathlib.Omega.{arith}
 use Rattle.std.proofs.Math.Dec.{ltb}
 use borrow.Author.Tests.{leb-true, ltb-true, eqb-true, le-leb, lt-ltb, eq-eqb}
 use Rattle.law.specs.Truth.{both, and_true, either, below_or}
-use Rattle.law.specs.Every.{every, some, every_at, every_of, some_at, some_of}
+use Rattle.law.specs.Every.{every, some}
+use Rattle.law.proofs.Every.{every_at, every_of, some_at, some_of}
 
 -- slot k is one of row r's
 abbrev pub InRow : (ℕ → ℕ) → ℕ → ℕ → Type 0

@@ -3,7 +3,8 @@ use Rattle.std.specs.Prelude.{ℕ, ◌+◌, ◌*◌, ◌≤◌, ◌≡◌, Bool,
 use Rattle.std.proofs.Math.Bool.{true}
 use Rattle.std.proofs.Common.{arith}
 use Rattle.law.specs.Limit.{particles}
-use Rattle.law.specs.Room.{Room, enough, enough_is}
+use Rattle.law.specs.Room.{Room, enough}
+use Rattle.law.proofs.Room.{enough_is}
 use Rattle.matrix_shape.specs.Formed.{well_formed, formed_is}
 use Rattle.matrix_shape.specs.Rows.{at, Held, Pattern}
 

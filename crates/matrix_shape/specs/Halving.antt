@@ -4,7 +4,7 @@ use Rattle.std.specs.Prelude.{◌≡◌, refl, true, false, cond, leb, eqb}
 use Rattle.std.proofs.Math.Path.{sym, ap}
 use Rattle.std.proofs.Common.{◌∙◌, ⊎_elim, arith, leb-true, leb-false, le-leb, eq-eqb, ne_eqb}
 use Rattle.std.proofs.lemmas.Bool.{lt-leb}
-use Rattle.law.specs.Loop.{climbing}
+use Rattle.law.proofs.Loop.{climbing}
 use Rattle.law.specs.Truth.{below_or, holds_or}
 use Rattle.law.specs.Find.{find, find_none, find_first}
 use Rattle.law.specs.Limit.{absent}

@@ -1,7 +1,8 @@
 -- THE SLOT OF A BLOCK: the slot of row r that has the column col, and `absent` where none has.
 use Rattle.std.specs.Prelude.{ℕ, ◌+◌, ◌-◌, ◌≤◌, ◌<◌, ◌≡◌, not, List, eqb, length}
 use Rattle.std.proofs.Common.{arith, eq-eqb, ne_eqb}
-use Rattle.law.specs.Find.{find, find_none, find_first, find_tells}
+use Rattle.law.specs.Find.{find, find_none, find_first}
+use Rattle.law.proofs.Find.{find_tells}
 use Rattle.law.specs.Limit.{absent}
 use Rattle.matrix_shape.specs.Formed.{InRow, WellFormed, stored}
 use Rattle.matrix_shape.specs.Rows.{at, Pattern, row_end, later}

@@ -5,8 +5,10 @@ use Rattle.std.proofs.Math.Path.{refl, ap}
 use Rattle.std.proofs.Common.{sym, ◌∙◌}
 use native.Mathlib.Omega.{arith}
 use Rattle.std.proofs.Math.ListN.{length, length-append, get_or-append}
-use Rattle.law.specs.Gather.{gather, up_to, up_to_none, up_to_more, up_to_rise, gather_at, gather_same, table, length_table, table_at}
-use Rattle.law.specs.Keep.{keep, rank, keep_has, keep_at, keep_rise, keep_same}
+use Rattle.law.specs.Gather.{gather, up_to, table}
+use Rattle.law.proofs.Gather.{up_to_none, up_to_more, up_to_rise, gather_at, gather_same, length_table, table_at}
+use Rattle.law.specs.Keep.{keep, rank}
+use Rattle.law.proofs.Keep.{keep_has, keep_at, keep_rise, keep_same}
 use Rattle.matrix_shape.specs.Formed.{InRow, Stored, WellFormed}
 use Rattle.matrix_shape.specs.Rows.{at, Held}
 

@@ -1,7 +1,7 @@
 -- WHAT A WELL FORMED PATTERN GIVES those who walk over it: rows lie within the lists, each slot is in one row, a column stands in one slot of a row.
 use Rattle.std.specs.Prelude.{ℕ, ◌+◌, ◌≤◌, ◌<◌, ◌≡◌, List, length, get_or}
 use Rattle.std.proofs.Common.{⊎_elim, arith}
-use Rattle.law.specs.Loop.{rising, climbing, from}
+use Rattle.law.proofs.Loop.{rising, climbing, from}
 use Rattle.law.specs.Truth.{below_or}
 use Rattle.law.specs.Limit.{particles}
 use Rattle.matrix_shape.specs.Formed.{InRow, WellFormed}

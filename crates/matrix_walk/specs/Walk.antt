@@ -8,12 +8,13 @@ use native.Mathlib.Omega.{arith}
 use Rattle.std.proofs.Math.Dec.{ltb, eqb}
 use borrow.Author.Tests.{not-false, ltb-true, leb-true, eqb-true, lt-ltb, eq-eqb}
 use Rattle.law.specs.Truth.{both, and_true, either, untrue, below_or, same_or, alike, passed, refused, clash}
-use Rattle.law.specs.Every.{every, every_more, every_at, every_of, some_at, some_of, some_none}
+use Rattle.law.specs.Every.{every}
+use Rattle.law.proofs.Every.{every_more, every_at, every_of, some_at, some_of, some_none}
 use Rattle.law.specs.Sum.{sum_nothing, bit}
 use Rattle.matrix_shape.specs.Formed.{slot_ok, home_ok}
 use Rattle.matrix_shape.specs.Rows.{at}
 use Rattle.matrix_shape.specs.Phases.{Spread}
-use Rattle.matrix_walk.specs.Cursors.{has, cursor, meet_ok, pair_ok, line_ok, end_ok, walk_ok, cursor_next}
+use Rattle.matrix_walk.specs.Cursors.{has, cursor, meet_ok, pair_ok, line_ok, end_ok, walk_ok}
 
 -- what a pattern whose row starts have passed and a list of cursors are to hold
 pub record Lent (n m : ℕ) (starts cols diagonal next : List ℕ) : Type 0 where
@@ -170,7 +171,7 @@ stored_there l i v j h = get_or-set_other l i j v 0 (λ e. h (sym e))
 -- the same as the loop's turn has it, which goes from k to k - 1: q is that slot's column, slot what stands in the list of cursors there
 module _ (m : ℕ) (c f : ℕ → ℕ) (r b a k ceiling : ℕ) (l : List ℕ) (w : Going m c f r b k ceiling (at l)) (h : a < k) (i : k ≤ b) (q : ℕ)
     (e : q ≡ c (k - 1)) where
-  before : Going m c f r b ((k - 1) + 1) ceiling (at l)
+  pub before : Going m c f r b ((k - 1) + 1) ceiling (at l)
   before = let z : (k - 1) + 1 ≡ k = omega arith in rw z w
 
   pub turn_high : ceiling ≤ q → false ≡ every (pair_ok m c f a r) a b
@@ -211,7 +212,7 @@ ends_same f g s n e = alike _ _ (one f g e) (one g f (λ j l. sym (e j l)))
 
 module _ (m : ℕ) (s c d : ℕ → ℕ) where
   -- row r's own cursor has not moved by then
-  own : (r : ℕ) → every (line_ok m s c d) 0 (r + 1) ≡ true → cursor s c d (r + 1) r ≡ d r + 1
+  pub own : (r : ℕ) → every (line_ok m s c d) 0 (r + 1) ≡ true → cursor s c d (r + 1) r ≡ d r + 1
   unfolding cursor line_ok bit
   own r t =
       omega (
@@ -249,13 +250,6 @@ module _ (m : ℕ) (s c d : ℕ → ℕ) where
   unfolding line_ok
   row_passes r t h p = sym (every_more (line_ok m s c d) 0 r (omega arith)) ∙ and_true _ _ t (and_true (home_ok c (s r) (s (r + 1)) (d r) r) _ h p)
 
-  pub row_moves : (r : ℕ) (g g' g'' : ℕ → ℕ) → every (line_ok m s c d) 0 (r + 1) ≡ true → ((j : ℕ) → j < r → g j ≡ cursor s c d r j)
-      → ((j : ℕ) → j < r → g' j ≡ g j + bit (has c (s r) (d r) j))
-      → g'' r ≡ d r + 1 → ((j : ℕ) → (r ≡ j → ⊥) → g'' j ≡ g' j) → (j : ℕ) → j < r + 1 → g'' j ≡ cursor s c d (r + 1) j
-  row_moves r g g' g'' t before moved mine others j l =
-      ⊎_elim (λ (u : j < r). omega (arith, others j (λ e. omega arith), moved j u, before j u, cursor_next s c d r j))
-      (λ (u : r ≤ j). let e : j ≡ r = omega arith in rw e (omega (arith, mine, own r t))) (below_or j r)
-
 -- the same as the loop's turn has it: a, b and k are where row r starts, where it ends and where its diagonal stands
 module _ (m : ℕ) (s c d : ℕ → ℕ) (n r : ℕ) (l : r < n) (a b k : ℕ) (ea : a ≡ s r) (eb : b ≡ s (r + 1)) (ek : k ≡ d r) where
   pub row_no_home : home_ok c a b k r ≡ false → false ≡ every (line_ok m s c d) 0 n
@@ -272,11 +266,6 @@ module _ (m : ℕ) (s c d : ℕ → ℕ) (n r : ℕ) (l : r < n) (a b k : ℕ) (
         (t : every (pair_ok m c (at old) a r) a k ≡ true) where
       pub row_tested : every (line_ok m s c d) 0 (r + 1) ≡ true
       row_tested = row_passes m s c d r rows (rw (ea, eb, ek) at home) (sym pairs_are ∙ t)
-
-      pub row_stands : ((j : ℕ) → j < r → at new j ≡ at old j + bit (has c a k j)) → (j : ℕ) → j < r + 1 → at (set new r (k + 1)) j ≡ cursor s c d (r + 1) j
-      row_stands moved =
-          row_moves m s c d r (at old) (at new) (at (set new r (k + 1))) row_tested stood (λ j u. rw (ea, ek) at (moved j u))
-          (stored_here new r (k + 1) room ∙ ap (λ (z : ℕ). z + 1) ek) (λ j u. stored_there new r (k + 1) j u)
 
 -- ---- the whole walk
 

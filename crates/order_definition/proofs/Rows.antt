@@ -10,7 +10,7 @@ use lib.ListN.{length, get_or, take}
 use lib.Seq.{length-slice, get_or-drop, get_or-take}
 use lib.Dec.{eqb}
 use borrow.Author.Tests.{eqb-true, not-true}
-use Rattle.law.specs.Loop.{rising, climbing}
+use Rattle.law.proofs.Loop.{rising, climbing}
 use Rattle.law.specs.Truth.{below_or}
 use Rattle.matrix_shape.specs.Formed.{Stored}
 use Rattle.matrix_shape.specs.Rows.{at}

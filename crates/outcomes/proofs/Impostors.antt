@@ -6,7 +6,8 @@ use mathlib.Core.Path.{◌≡◌, refl, sym, ap, ◌∙◌}
 use mathlib.Core.List.{[], ◌∷◌}
 use mathlib.Core.Logic.{◌⊎◌, inl, inr, ⊎_elim}
 use Rattle.law.specs.Limit.{tally}
-use Rattle.law.specs.Promise.{by, outcome, zero_from}
+use Rattle.law.specs.Promise.{by, outcome}
+use Rattle.law.proofs.Promise.{zero_from}
 use Rattle.matrix_pairs.specs.Pairs.{Together}
 use Rattle.order_demand3.specs.Demand.{Chain, stay, link, Chained, Ordered}
 use Rattle.step_tally.specs.Runs.{fresh, solves}

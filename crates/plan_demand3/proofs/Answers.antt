@@ -10,8 +10,10 @@ use borrow.Author.Tests.{leb-true, le-leb, lt-leb}
 use Rattle.law.specs.Limit.{particles, envelope}
 use Rattle.law.specs.Number.{long_envelope}
 use Rattle.law.specs.Room.{enough}
-use Rattle.law.specs.Refusal.{unless, verdict, none_fails, stops, decides_late, rising_front}
-use Rattle.law.specs.Promise.{Promise, one_outcome, zero_is, zero_from, refuses, accepts, IsWork, work_or_refusal}
+use Rattle.law.specs.Refusal.{unless, verdict}
+use Rattle.law.proofs.Refusals.{none_fails, stops, decides_late, rising_front}
+use Rattle.law.specs.Promise.{Promise, IsWork}
+use Rattle.law.proofs.Promise.{one_outcome, zero_is, zero_from, refuses, accepts, work_or_refusal}
 use Rattle.matrix_shape.specs.Given.{pattern_room, formed}
 use Rattle.plan_doors.specs.Planning.{In, Out, planning_room, early, refusals, in_order, length_for, work, refuse, door}
 use Rattle.plan_doors.specs.declared.Planned.{Planned}

@@ -5,14 +5,15 @@ use mathlib.Core.Path.{◌≡◌, ap, ◌∙◌}
 use mathlib.Core.Bool.{true}
 use native.Mathlib.Omega.{arith}
 use lib.ListN.{length, length-append, get_or-append}
-use Rattle.law.specs.Gather.{length_table, table_at}
+use Rattle.law.proofs.Gather.{length_table, table_at}
 use Rattle.matrix_shape.specs.Rows.{at, Pattern}
 use Rattle.matrix_shape.specs.Given.{pattern}
 use Rattle.order_definition.specs.Envelope.{place_of}
 use Rattle.order_demand3.specs.Demand.{Demand3, order_in, first_in}
 use Rattle.order_demand3.proofs.Whole.{order_long, demand_3}
 use Rattle.order_demand3.proofs.Carried.{demand_carried}
-use Rattle.plan_fits.specs.Fits.{fits_ok, fits_of}
+use Rattle.plan_fits.specs.Fits.{fits_ok}
+use Rattle.plan_fits.proofs.Fits.{fits_of}
 use Rattle.plan_fits.specs.Lists.{Laid}
 use Rattle.plan_fits.specs.Same.{Same, fits_same}
 use Rattle.plan_layout.specs.Starts.{start_at, starts_are}

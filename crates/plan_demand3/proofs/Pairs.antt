@@ -6,8 +6,10 @@ use mathlib.Core.List.{append_assoc}
 use mathlib.Core.Logic.{⊎_elim}
 use native.Mathlib.Omega.{arith}
 use Rattle.law.specs.Limit.{particles}
-use Rattle.law.specs.Room.{enough, enough_of}
-use Rattle.law.specs.Promise.{Promise, IsWork, work_or_refusal}
+use Rattle.law.specs.Room.{enough}
+use Rattle.law.proofs.Room.{enough_of}
+use Rattle.law.specs.Promise.{Promise, IsWork}
+use Rattle.law.proofs.Promise.{work_or_refusal}
 use Rattle.matrix_shape.specs.Formed.{Stored, formed_of}
 use Rattle.matrix_shape.specs.Rows.{at}
 use Rattle.matrix_shape.specs.Given.{pattern_room, formed}
@@ -15,8 +17,10 @@ use Rattle.matrix_shape.specs.Made.{start_of, Begins, begins, stored_passes, pas
 use Rattle.matrix_pairs.specs.Pairs.{stored_by, own, twin, Together, together_is, together_of, together_below}
 use Rattle.matrix_build.specs.Build.{built_of}
 use Rattle.matrix_building.specs.Building as building
-use Rattle.matrix_building.specs.Building.{In, Out, Ready, ready, work}
+use Rattle.matrix_building.specs.Building.{In, Out, Ready, work}
+use Rattle.matrix_building.proofs.Building.{ready}
 use Rattle.matrix_building.specs.FromPairs as frompairs
+use Rattle.matrix_building.proofs.FromPairs as frompairs_lemmas
 use Rattle.matrix_building.specs.declared.Built.{Built}
 use Rattle.matrix_building.specs.declared.Built.TheVariants.{Refused, Done}
 use Rattle.order_demand3.proofs.Carried.{Alike}
@@ -48,7 +52,7 @@ values_worked b c h m e =
     let a : IsWork frompairs.door b c =
     ⊎_elim (λ a. a) (λ r. absurd (apart r.0 m (sym (ap (λ (x : frompairs.Out). x.pattern.answer) r.1.1.1) ∙ e)))
     (work_or_refusal frompairs.door b c h) in
-    record { had = (frompairs.ready b a.0).pattern; left = ap (λ (x : frompairs.Out). x.pattern) a.1 }
+    record { had = (frompairs_lemmas.ready b a.0).pattern; left = ap (λ (x : frompairs.Out). x.pattern) a.1 }
 
 -- ---- what it left
 

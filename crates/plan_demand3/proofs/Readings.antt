@@ -8,7 +8,8 @@ use Rattle.law.specs.Every.{every, some}
 use Rattle.law.specs.Gather.{gather, up_to}
 use Rattle.law.specs.Room.{enough}
 use Rattle.law.specs.Refusal.{verdict}
-use Rattle.law.specs.Promise.{outcome, some_outcome}
+use Rattle.law.specs.Promise.{outcome}
+use Rattle.law.proofs.Promise.{some_outcome}
 use Rattle.matrix_shape.specs.Formed.{slot_ok, home_ok, row_ok, stored, mirrors_ok, starts_ok, well_formed}
 use Rattle.matrix_shape.specs.Rows.{at}
 use Rattle.matrix_shape.specs.Made.{row_of, cols_of, start_of, slot_of, starts_of, slots_of}

@@ -1,3 +1,4 @@
 mod Readings
 pub mod Outcome
 mod SaidReadings
+pub mod Planning

@@ -4,7 +4,7 @@ use Rattle.std.specs.Prelude.{ℕ, ◌+◌, ◌-◌, ◌*◌, ◌%◌, ◌≤◌
 use Rattle.std.proofs.Math.Path.{refl, ap}
 use Rattle.std.proofs.Common.{sym, ◌∙◌, arith}
 use mathlib.Core.List.{List}
-use Rattle.law.specs.Gather.{table_at}
+use Rattle.law.proofs.Gather.{table_at}
 use Rattle.matrix_shape.specs.Formed.{Stored}
 use Rattle.matrix_shape.specs.Rows.{at, Pattern}
 use Rattle.order_definition.specs.Envelope.{place_of, first_block, first_col}

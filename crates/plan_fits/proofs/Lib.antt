@@ -1,1 +1,3 @@
 mod Readings
+pub mod Fits
+pub mod Lists

@@ -3,7 +3,7 @@
 use Rattle.std.specs.Prelude.{ℕ, ◌+◌, ◌-◌, ◌*◌, ◌≤◌, ◌<◌, ◌≡◌, List, length, get_or, Float}
 use Rattle.std.proofs.Common.{ap, ⊎_elim, arith, mul-le-mul}
 use Rattle.std.specs.Float.{nan}
-use Rattle.law.specs.Loop.{rising, from}
+use Rattle.law.proofs.Loop.{rising, from}
 use Rattle.law.specs.Limit.{particles}
 use Rattle.law.specs.Truth.{below_or}
 use Rattle.matrix_shape.specs.Formed.{Stored}

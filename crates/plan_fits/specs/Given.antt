@@ -2,7 +2,8 @@
 use Rattle.std.specs.Prelude.{ℕ, ◌+◌, ◌*◌, ◌≤◌, ◌≡◌, true, List, [], ◌∷◌, length}
 use Rattle.std.proofs.Common.{arith}
 use Rattle.law.specs.Limit.{particles}
-use Rattle.law.specs.Room.{Room, enough, enough_is}
+use Rattle.law.specs.Room.{Room, enough}
+use Rattle.law.proofs.Room.{enough_is}
 use Rattle.matrix_shape.specs.Rows.{at}
 use Rattle.plan_fits.specs.Lists.{Laid}
 

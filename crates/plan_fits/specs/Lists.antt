@@ -5,7 +5,7 @@ use Rattle.std.proofs.Common.{ap, ⊎_elim, arith}
 use Rattle.law.specs.Limit.{particles}
 use Rattle.law.specs.Truth.{same_or}
 use Rattle.matrix_shape.specs.Rows.{at}
-use Rattle.plan_fits.specs.Fits.{PlanRules, plan_rules_ok, firsts_ok, firsts_is, planned_is}
+use Rattle.plan_fits.specs.Fits.{PlanRules, plan_rules_ok, firsts_ok}
 
 -- the lists have the places that a plan for n particles fills
 pub record Laid (n : ℕ) (order inverse first starts : List ℕ) : Type 0 where
@@ -19,10 +19,6 @@ pub record Laid (n : ℕ) (order inverse first starts : List ℕ) : Type 0 where
 pub record Plan (n : ℕ) (order inverse first starts : List ℕ) : Type 0 where
   pub laid : Laid n order inverse first starts
   pub planned : PlanRules n (at order) (at inverse) (at first) (at starts)
-
-pub plan_of : (n : ℕ) (order inverse first starts : List ℕ) → Laid n order inverse first starts → plan_rules_ok n (at order) (at inverse) (at first)
-    (at starts) ≡ true → Plan n order inverse first starts
-plan_of n order inverse first starts l h = record { laid = l; planned = planned_is n (at order) (at inverse) (at first) (at starts) h }
 
 -- ---- what the test of the row starts needs
 
@@ -38,14 +34,6 @@ row_low n f h r l =
     let i = r / 2 in
     let w = h i (omega arith) in
     ⊎_elim (λ e. omega (arith, ap f e, w.1)) (λ e. let d : r ≡ 2 * i + 1 = omega arith in omega (arith, ap f d, w.0, w.1)) (same_or r (2 * i))
-
-pub lows_of : (n : ℕ) (order inverse first starts : List ℕ) → Laid n order inverse first starts → firsts_ok n (at first) ≡ true → Lows (2 * n) first starts
-lows_of n order inverse first starts l h = record {
-  few = omega (arith, l.few);
-  firsts = l.firsts;
-  begins = l.begins;
-  low = row_low n (at first) (λ i g. let w = firsts_is n (at first) h i g in (w.0, w.1.1));
-}
 
 -- ---- what the test of the blocks needs
 

@@ -4,10 +4,12 @@ use Rattle.std.specs.Prelude.{ℕ, ◌*◌, ◌≤◌, ◌<◌, ◌≡◌, refl,
 use Rattle.std.proofs.Common.{ap, ◌∙◌, ⊎_elim, arith}
 use borrow.Author.Tests.{leb-true, le-leb}
 use Rattle.law.specs.Truth.{both, and_true, below_or, alike}
-use Rattle.law.specs.Every.{every, every_at, every_of}
+use Rattle.law.specs.Every.{every}
+use Rattle.law.proofs.Every.{every_at, every_of}
 use Rattle.matrix_shape.specs.Formed.{InRow, Stored, WellFormed}
 use Rattle.matrix_shape.specs.Rows.{at, Pattern, row_end, later}
-use Rattle.plan_fits.specs.Fits.{PlanRules, Inside, inside_ok, inside_is, inside_of}
+use Rattle.plan_fits.specs.Fits.{PlanRules, Inside, inside_ok}
+use Rattle.plan_fits.proofs.Fits.{inside_is, inside_of}
 use Rattle.plan_fits.specs.Lists.{Placed}
 
 -- slot k of a row at position i, whose rows start at column a: the block lies inside, and so does its mirror

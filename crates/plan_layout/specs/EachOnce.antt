@@ -2,7 +2,8 @@
 use Rattle.std.specs.Prelude.{ℕ, zero, suc, ◌+◌, ◌≤◌, ◌<◌, ◌≡◌, refl, Bool, true, false, List, [], ◌∷◌, eqb, length, set}
 use Rattle.std.proofs.Common.{sym, ap, ◌∙◌, arith, get_or-set_same, get_or-set_other, below_more, eqb-true}
 use Rattle.std.proofs.lemmas.Bool.{eqb-false}
-use Rattle.law.specs.Gather.{table, table_of}
+use Rattle.law.specs.Gather.{table}
+use Rattle.law.proofs.Gather.{table_of}
 use Rattle.matrix_shape.specs.Rows.{at, Pattern}
 use Rattle.order_definition.specs.Envelope.{place_of}
 use Rattle.order_demand3.specs.Demand.{order_in}

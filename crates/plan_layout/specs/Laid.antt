@@ -3,9 +3,11 @@ use Rattle.std.specs.Prelude.{ℕ, ◌+◌, ◌*◌, ◌≤◌, ◌<◌, ◌≡�
 use Rattle.std.proofs.Math.Path.{sym, ap}
 use Rattle.std.proofs.Common.{◌∙◌, arith, add-one}
 use mathlib.Core.List.{List}
-use Rattle.law.specs.Loop.{over_same}
-use Rattle.law.specs.Gather.{table, length_table, table_at}
-use Rattle.law.specs.Store.{written, table_turn}
+use Rattle.law.proofs.Loop.{over_same}
+use Rattle.law.specs.Gather.{table}
+use Rattle.law.proofs.Gather.{length_table, table_at}
+use Rattle.law.specs.Store.{written}
+use Rattle.law.proofs.Store.{table_turn}
 use Rattle.law.specs.Limit.{particles}
 use Rattle.matrix_shape.specs.Rows.{at, row_end}
 use Rattle.order_definition.specs.Tight.{Tight}

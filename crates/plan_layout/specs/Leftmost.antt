@@ -8,8 +8,10 @@ use mathlib.Core.List.{List, [], ◌∷◌}
 use Rattle.std.proofs.Math.Numerals.{add-one}
 use Rattle.std.proofs.Math.ListN.{length}
 use Rattle.std.proofs.Math.Seq.{slice, length-slice, get_or-take}
-use Rattle.law.specs.Loop.{over, over_shift}
-use Rattle.law.specs.Along.{along, over_list}
+use Rattle.law.specs.Loop.{over}
+use Rattle.law.proofs.Loop.{over_shift}
+use Rattle.law.specs.Along.{along}
+use Rattle.law.proofs.Along.{over_list}
 use Rattle.matrix_shape.specs.Rows.{at}
 use Rattle.order_definition.specs.Order.{passing, neighbours}
 use Rattle.order_definition.specs.Envelope.{place_of, lesser, leftmost, first_block, first_col}

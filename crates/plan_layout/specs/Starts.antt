@@ -2,8 +2,10 @@
 use Rattle.std.specs.Prelude.{ℕ, zero, suc, ◌+◌, ◌-◌, ◌*◌, ◌≤◌, ◌<◌, ◌≡◌, List, [], ◌∷◌, ◌++◌, get_or}
 use Rattle.std.proofs.Math.Path.{sym}
 use Rattle.std.proofs.Common.{ap, ◌∙◌, arith}
-use Rattle.law.specs.Loop.{over, over_none, over_more, over_same}
-use Rattle.law.specs.Gather.{table, gather_none, gather_more, table_at}
+use Rattle.law.specs.Loop.{over}
+use Rattle.law.proofs.Loop.{over_none, over_more, over_same}
+use Rattle.law.specs.Gather.{table}
+use Rattle.law.proofs.Gather.{gather_none, gather_more, table_at}
 use Rattle.order_definition.specs.Envelope.{first_col, row_starts}
 
 unfoldable pub start_at : (ℕ → ℕ) → ℕ → ℕ

@@ -5,7 +5,8 @@ use Rattle.std.proofs.Common.{◌∙◌, arith, le-leb}
 use mathlib.Core.List.{List, [], ◌∷◌}
 use Rattle.std.proofs.Math.ListN.{length}
 use Rattle.std.proofs.lemmas.Bool.{lt-leb}
-use Rattle.law.specs.Gather.{gather_same, table, length_table, table_at}
+use Rattle.law.specs.Gather.{table}
+use Rattle.law.proofs.Gather.{gather_same, length_table, table_at}
 use Rattle.law.specs.Limit.{particles, envelope}
 use Rattle.matrix_shape.specs.Rows.{at}
 use Rattle.order_definition.specs.Order.{order_of}

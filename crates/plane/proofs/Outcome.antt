@@ -1,6 +1,7 @@
 -- ONE OUTCOME of each public call, by the contract that its own theorem cites.
 use mathlib.Core.Path.{refl}
-use Rattle.law.specs.One.{OneOutcome, plainly, past, of_parts}
+use Rattle.law.specs.One.{OneOutcome, past}
+use Rattle.law.proofs.One.{plainly, of_parts}
 use Rattle.plane.specs.contracts.add as add
 use Rattle.plane.specs.contracts.sub as sub
 use Rattle.plane.specs.contracts.scale as scale

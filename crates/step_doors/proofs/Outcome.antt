@@ -1,7 +1,8 @@
 -- ONE OUTCOME of each public call, by the contract that its own theorem cites.
 use mathlib.Core.Path.{◌≡◌, refl}
 use mathlib.Core.Bool.{Bool, true, false, cond, ◌&&◌}
-use Rattle.law.specs.One.{OneOutcome, plainly, past, of_door, of_counted}
+use Rattle.law.specs.One.{OneOutcome, past}
+use Rattle.law.proofs.One.{plainly, of_door, of_counted}
 use Rattle.step_solve.specs.Marking as marking
 use Rattle.step_solve.specs.Stepping as stepping
 use Rattle.step_response.specs.Responding as responding

@@ -7,12 +7,15 @@ use mathlib.Core.List.{List, [], ◌∷◌, ◌++◌}
 use Rattle.std.proofs.Math.ListN.{drop}
 use Rattle.std.specs.Float.Ieee.{lt}
 use Rattle.law.specs.Limit.{entries}
-use Rattle.law.specs.Loop.{over, over_keeps}
-use Rattle.law.specs.Every.{every, every_at, some}
+use Rattle.law.specs.Loop.{over}
+use Rattle.law.proofs.Loop.{over_keeps}
+use Rattle.law.specs.Every.{every, some}
+use Rattle.law.proofs.Every.{every_at}
 use Rattle.law.specs.Store.{drop_written}
 use Rattle.law.specs.Gather.{gather}
-use Rattle.law.specs.Mix.{length_parts}
-use Rattle.law.specs.Room.{Room, enough, enough_is}
+use Rattle.law.proofs.Mix.{length_parts}
+use Rattle.law.specs.Room.{Room, enough}
+use Rattle.law.proofs.Room.{enough_is}
 use Rattle.plane.specs.Plane.{Vector, ◌⊕◌, zero32, zero_of, add_of, dot_of}
 use Rattle.plane.specs.Lent.{vector_at, with_vector}
 use Rattle.matrix_shape.specs.Rows.{at}

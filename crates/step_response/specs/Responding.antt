@@ -5,7 +5,8 @@ use Rattle.std.proofs.Common.{ap, ◌∙◌, arith, leb-true}
 use Rattle.law.specs.Limit.{particles, entries}
 use Rattle.law.specs.Number.{too_many_particles, too_many_entries, short_buffer, out_of_range}
 use Rattle.law.specs.Room.{enough}
-use Rattle.law.specs.Refusal.{Test, unless, Rising, verdict, all_pass, none_fails}
+use Rattle.law.specs.Refusal.{Test, unless, Rising, verdict}
+use Rattle.law.proofs.Refusals.{all_pass, none_fails}
 use Rattle.law.specs.Promise.{Door}
 use Rattle.law.specs.Said.{Said}
 use Rattle.step_solve.specs.declared.Stepped.{Stepped}

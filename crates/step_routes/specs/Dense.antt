@@ -9,12 +9,14 @@ use Rattle.law.specs.Mix.{mix}
 use Rattle.law.specs.Number.{bad_pattern, bad_plan, long_envelope, bad_settings}
 use Rattle.law.specs.Room.{enough}
 use Rattle.law.specs.Truth.{both}
-use Rattle.law.specs.Refusal.{Test, unless, verdict, Rising, decides_early, decides_late, when, when_is}
+use Rattle.law.specs.Refusal.{Test, unless, verdict, Rising, when}
+use Rattle.law.proofs.Refusals.{decides_early, decides_late, when_is}
 use Rattle.plane.specs.Plane.{zero_of}
 use Rattle.matrix_shape.specs.Rows.{at}
 use Rattle.matrix_shape.specs.Given.{pattern_room, formed}
 use Rattle.plan_fits.specs.Fits.{plan_rules_ok, fits_ok}
-use Rattle.plan_fits.specs.Lists.{Laid, Plan, plan_of}
+use Rattle.plan_fits.specs.Lists.{Laid, Plan}
+use Rattle.plan_fits.proofs.Lists.{plan_of}
 use Rattle.plan_fits.specs.Given.{plan_room, factor_length, laid}
 use Rattle.gradient_refusals.specs.Settings.{settings_ok}
 use Rattle.gradient_doors.specs.Solving.{vectors_room}

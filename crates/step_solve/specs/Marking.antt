@@ -5,9 +5,11 @@ use Rattle.std.proofs.Common.{ap, arith, leb-true}
 use Rattle.law.specs.Limit.{particles}
 use Rattle.law.specs.Mix.{mix}
 use Rattle.law.specs.Number.{too_many_particles, short_buffer}
-use Rattle.law.specs.Room.{enough, enough_is, enough_of}
+use Rattle.law.specs.Room.{enough}
+use Rattle.law.proofs.Room.{enough_is, enough_of}
 use Rattle.law.specs.Truth.{both}
-use Rattle.law.specs.Refusal.{Test, unless, Rising, verdict, all_pass, none_fails, when, when_is}
+use Rattle.law.specs.Refusal.{Test, unless, Rising, verdict, when}
+use Rattle.law.proofs.Refusals.{all_pass, none_fails, when_is}
 use Rattle.law.specs.Promise.{Door}
 use Rattle.law.specs.Said.{Said}
 use Rattle.matrix_shape.specs.Given.{pattern_room}

@@ -3,7 +3,8 @@ use Rattle.std.specs.Prelude.{ℕ, ◌*◌, ◌≡◌, Bool, true, false, cond, 
 use Rattle.std.proofs.Common.{ap, arith, leb-true}
 use Rattle.law.specs.Limit.{particles}
 use Rattle.law.specs.Number.{too_many_particles, short_buffer}
-use Rattle.law.specs.Refusal.{Test, unless, Rising, verdict, all_pass, none_fails, when_is}
+use Rattle.law.specs.Refusal.{Test, unless, Rising, verdict}
+use Rattle.law.proofs.Refusals.{all_pass, none_fails, when_is}
 use Rattle.law.specs.Promise.{Door}
 use Rattle.law.specs.Said.{Said}
 use Rattle.plan_fits.specs.Given.{factor_length}

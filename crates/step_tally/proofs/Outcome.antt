@@ -1,6 +1,7 @@
 -- ONE OUTCOME of each public call, by the contract that its own theorem cites.
 use mathlib.Core.Path.{refl}
-use Rattle.law.specs.One.{OneOutcome, plainly, past, of_parts}
+use Rattle.law.specs.One.{OneOutcome, past}
+use Rattle.law.proofs.One.{plainly, of_parts}
 use Rattle.step_tally.specs.contracts.fresh as fresh
 use Rattle.step_tally.specs.contracts.total as total
 use Rattle.step_tally.specs.contracts.added as added

@@ -4,7 +4,8 @@ use Rattle.std.proofs.Common.{zero-le, ◌∙◌, arith, add-zero}
 use Rattle.std.specs.Float.{nan}
 use Rattle.law.specs.Loop.{over}
 use Rattle.law.specs.Store.{written}
-use Rattle.law.specs.Mix.{mix, mix_none, turn_reads, turn_stores}
+use Rattle.law.specs.Mix.{mix}
+use Rattle.law.proofs.Mix.{mix_none, turn_reads, turn_stores}
 use Rattle.plane.specs.Plane.{Vector, ◌⊕◌, zero32, sub_of, dot_of}
 use Rattle.plane.specs.Lent.{vector_at}
 

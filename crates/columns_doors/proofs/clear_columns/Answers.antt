@@ -3,7 +3,7 @@ use mathlib.Core.Path.{◌≡◌, sym, ap, ◌∙◌}
 use lib.ListN.{length}
 use borrow.Author.Tests.{leb-true}
 use Rattle.law.specs.Refusal.{verdict}
-use Rattle.law.specs.Promise.{zero_is, refuses, accepts}
+use Rattle.law.proofs.Promise.{zero_is, refuses, accepts}
 use Rattle.columns_table.specs.Clearing.{In, left, refusals, door}
 use Rattle.columns_table.specs.declared.Loaded.TheVariants.{Count}
 use Rattle.columns_doors.proofs.clear_columns.Goals as goal

@@ -1,5 +1,5 @@
 use mathlib.Core.Path.{sym, ◌∙◌}
-use Rattle.law.specs.Promise.{refuses, accepts}
+use Rattle.law.proofs.Promise.{refuses, accepts}
 use Rattle.columns_table.specs.Loading.{door, ready}
 use Rattle.columns_doors.proofs.load_particle.Goals as goal
 

@@ -1,5 +1,5 @@
 use mathlib.Core.Path.{sym, ◌∙◌}
-use Rattle.law.specs.Promise.{refuses, accepts}
+use Rattle.law.proofs.Promise.{refuses, accepts}
 use Rattle.columns_block.specs.Blocking.{door, ready}
 use Rattle.columns_doors.proofs.particle_block_from_columns.Goals as goal
 

@@ -1,5 +1,5 @@
 use mathlib.Core.Path.{sym, ◌∙◌}
-use Rattle.law.specs.Promise.{refuses, accepts}
+use Rattle.law.proofs.Promise.{refuses, accepts}
 use Rattle.columns_combine.specs.Combining.{door, ready}
 use Rattle.columns_doors.proofs.response_from_columns.Goals as goal
 

@@ -1,5 +1,5 @@
 use mathlib.Core.Path.{sym, ◌∙◌}
-use Rattle.law.specs.Promise.{refuses, accepts}
+use Rattle.law.proofs.Promise.{refuses, accepts}
 use Rattle.factor_doors.specs.Factorizing.{door, ready}
 use Rattle.factor_doors.proofs.factorize.Goals as goal
 

@@ -1,5 +1,5 @@
 use mathlib.Core.Path.{sym, ◌∙◌}
-use Rattle.law.specs.Promise.{refuses, accepts}
+use Rattle.law.proofs.Promise.{refuses, accepts}
 use Rattle.gradient_doors.specs.Solving.{door, ready}
 use Rattle.gradient_doors.proofs.solve.Goals as goal
 

@@ -1,5 +1,5 @@
 use mathlib.Core.Path.{sym, ap, ◌∙◌}
-use Rattle.law.specs.Promise.{refuses, accepts}
+use Rattle.law.proofs.Promise.{refuses, accepts}
 use Rattle.gradient_doors.specs.Updating as updating
 use Rattle.gradient_doors.specs.declared.Updated.TheVariants.{Done}
 use Rattle.gradient_doors.proofs.update_preconditioner.Goals as goal

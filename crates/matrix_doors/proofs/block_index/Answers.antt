@@ -1,6 +1,6 @@
 use Prim.Native.Nat.{ℕ}
 use mathlib.Core.Path.{sym, ap, ◌∙◌}
-use Rattle.law.specs.Promise.{refuses, accepts}
+use Rattle.law.proofs.Promise.{refuses, accepts}
 use Rattle.matrix_shape.specs.Index.{line_of}
 use Rattle.matrix_doors.specs.declared.Found.TheVariants.{Slot}
 use Rattle.matrix_doors.specs.Indexing as indexing

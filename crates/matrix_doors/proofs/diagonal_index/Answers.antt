@@ -1,6 +1,6 @@
 use mathlib.Core.Path.{refl, sym, ◌∙◌}
 use native.Mathlib.Omega.{arith}
-use Rattle.law.specs.Promise.{refuses, accepts}
+use Rattle.law.proofs.Promise.{refuses, accepts}
 use Rattle.matrix_doors.specs.Indexing as indexing
 use Rattle.matrix_doors.proofs.diagonal_index.Goals as goal
 

@@ -1,6 +1,7 @@
 use mathlib.Core.Path.{sym, ◌∙◌}
-use Rattle.law.specs.Promise.{refuses, accepts}
+use Rattle.law.proofs.Promise.{refuses, accepts}
 use Rattle.matrix_building.specs.FromPairs as frompairs
+use Rattle.matrix_building.proofs.FromPairs as frompairs_lemmas
 use Rattle.matrix_doors.proofs.from_pairs.Goals as goal
 
 pub returns-then-no-ne0 : goal.returns-then-no-ne0
@@ -8,7 +9,7 @@ returns-then-no-ne0 c = refuses frompairs.door _ _ c.from_pairs-no.ensures c.if-
 
 pub build_with_values-m-requires : goal.build_with_values-m-requires
 build_with_values-m-requires c =
-    let r = frompairs.ready _ (sym c.from_pairs-no.ensures ∙ c.if-no-ne0.false) in
+    let r = frompairs_lemmas.ready _ (sym c.from_pairs-no.ensures ∙ c.if-no-ne0.false) in
     r
 
 pub returns : goal.returns

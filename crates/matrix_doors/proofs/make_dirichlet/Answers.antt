@@ -1,5 +1,5 @@
 use mathlib.Core.Path.{sym, ap, ◌∙◌}
-use Rattle.law.specs.Promise.{refuses, accepts}
+use Rattle.law.proofs.Promise.{refuses, accepts}
 use Rattle.matrix_doors.specs.Pinning as pinning
 use Rattle.matrix_doors.specs.declared.Ran.TheVariants.{Done}
 use Rattle.matrix_doors.proofs.make_dirichlet.Goals as goal

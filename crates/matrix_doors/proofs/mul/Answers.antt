@@ -1,5 +1,5 @@
 use mathlib.Core.Path.{sym, ap, ◌∙◌}
-use Rattle.law.specs.Promise.{refuses, accepts}
+use Rattle.law.proofs.Promise.{refuses, accepts}
 use Rattle.matrix_doors.specs.Multiplying as multiplying
 use Rattle.matrix_shape.specs.Rows.{rows_of}
 use Rattle.matrix_doors.specs.declared.Ran.TheVariants.{Done}

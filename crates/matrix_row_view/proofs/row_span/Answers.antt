@@ -1,5 +1,5 @@
 use mathlib.Core.Path.{sym, ap, ◌∙◌}
-use Rattle.law.specs.Promise.{refuses, accepts}
+use Rattle.law.proofs.Promise.{refuses, accepts}
 use Rattle.matrix_row_view.specs.Showing.{spanned, span_door, ready}
 use Rattle.matrix_row_view.proofs.row_span.Goals as goal
 

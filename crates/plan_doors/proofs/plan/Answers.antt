@@ -1,7 +1,7 @@
 use mathlib.Core.Path.{sym, ◌∙◌}
 use Rattle.plan_make.specs.Plan.{four}
 use Rattle.plan_make.specs.Parts.{five}
-use Rattle.plan_doors.specs.Planning.{ready, refused_early, worked}
+use Rattle.plan_doors.proofs.Planning.{ready, refused_early, worked}
 use Rattle.plan_doors.proofs.plan.Goals as goal
 
 pub returns-then-no-ne0 : goal.returns-then-no-ne0

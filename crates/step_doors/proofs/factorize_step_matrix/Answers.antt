@@ -1,5 +1,5 @@
 use mathlib.Core.Path.{sym, ◌∙◌}
-use Rattle.law.specs.Promise.{refuses, accepts}
+use Rattle.law.proofs.Promise.{refuses, accepts}
 use Rattle.step_solve.specs.Marking.{door, ready}
 use Rattle.step_doors.proofs.factorize_step_matrix.Goals as goal
 

@@ -1,7 +1,7 @@
 use mathlib.Core.Path.{sym}
 use native.Mathlib.Omega.{arith}
 use lib.Seq.{length-take-le}
-use Rattle.bench_answer.specs.Answering.{lines_fit, gave_three, gave_refusal, gave_lines}
+use Rattle.bench_answer.proofs.Answering.{lines_fit, gave_three, gave_refusal, gave_lines}
 use Rattle.bench_desk.proofs.session.answer_pairs.Goals as goal
 
 pub returns-then-out-n : goal.returns-then-out-n

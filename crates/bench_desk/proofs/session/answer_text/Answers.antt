@@ -2,7 +2,7 @@ use mathlib.Core.Path.{sym}
 use native.Mathlib.Omega.{arith}
 use lib.Seq.{length-take-le}
 use Rattle.bench_plan.specs.Read.{read_number, read_well, read_counted}
-use Rattle.bench_answer.specs.Answering.{gave_early, gave_pairs}
+use Rattle.bench_answer.proofs.Answering.{gave_early, gave_pairs}
 use Rattle.bench_desk.proofs.session.answer_text.Goals as goal
 
 pub overflow_mul-m : goal.overflow_mul-m

@@ -1,7 +1,7 @@
 use mathlib.Core.Path.{refl, ap, ◌∙◌}
 use native.Mathlib.Omega.{arith}
 use lib.ListN.{length-set}
-use Rattle.law.specs.Store.{table_turn}
+use Rattle.law.proofs.Store.{table_turn}
 use Rattle.bench_picture.specs.Pixels.{digit}
 use Rattle.bench_picture.proofs.Lines.{none_yet, all_written}
 use borrow.Author.Rules.{rules}

@@ -1,6 +1,6 @@
 use mathlib.Core.Path.{sym}
 use native.Mathlib.Omega.{arith}
-use Rattle.law.specs.Find.{find_tells}
+use Rattle.law.proofs.Find.{find_tells}
 use Rattle.law.specs.Limit.{absent}
 use Rattle.matrix_shape.specs.Formed.{stored}
 use Rattle.bench_picture.proofs.pixels.has.Goals as goal

@@ -1,7 +1,7 @@
 use mathlib.Core.Path.{sym, ◌∙◌}
 use native.Mathlib.Omega.{arith}
 use Rattle.bench_plan.specs.Built.{ready, built_pattern, starts_part, cols_part}
-use Rattle.bench_plan.specs.Fronts.{gave_four, gave_seven, gave_plan}
+use Rattle.bench_plan.proofs.Fronts.{gave_four, gave_seven, gave_plan}
 use Rattle.bench_plan.proofs.inner.from_pairs.Goals as goal
 
 pub returns-then-not-pairs_ok : goal.returns-then-not-pairs_ok

@@ -1,5 +1,5 @@
 use native.Mathlib.Omega.{arith}
-use Rattle.bench_plan.specs.Fronts.{planned_is}
+use Rattle.bench_plan.proofs.Fronts.{planned_is}
 use Rattle.bench_plan.proofs.inner.from_pattern.Goals as goal
 
 pub plan-requires : goal.plan-requires

@@ -1,7 +1,7 @@
 use mathlib.Core.Path.{refl, ◌∙◌}
 use native.Mathlib.Omega.{arith}
 use borrow.Author.Rules.{rules}
-use Rattle.law.specs.Loop.{over_none, over_turn, over_done}
+use Rattle.law.proofs.Loop.{over_none, over_turn, over_done}
 use Rattle.bench_scan.specs.Scan.{state_to}
 use Rattle.bench_scan.proofs.Turn.{count_after, room_long, scan_end}
 use Rattle.bench_scan.proofs.inner.scanned.Goals as goal

@@ -1,5 +1,5 @@
 use mathlib.Core.Path.{sym, ◌∙◌}
-use Rattle.bench_text.specs.Nine.{not_described, is_described}
+use Rattle.bench_text.proofs.Nine.{not_described, is_described}
 use Rattle.bench_text.proofs.Passes.{head_known, head_none}
 use Rattle.bench_text.proofs.inner.read.Goals as goal
 

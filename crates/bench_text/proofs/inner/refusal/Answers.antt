@@ -1,5 +1,5 @@
 use borrow.Author.Tests.{le-leb, lt-leb}
-use Rattle.law.specs.Refusal.{goes_on, stops, ends}
+use Rattle.law.proofs.Refusals.{goes_on, stops, ends}
 use Rattle.bench_text.specs.Nine.{limits}
 use Rattle.bench_text.specs.Reading.{tests}
 use Rattle.bench_text.proofs.inner.refusal.Goals as goal

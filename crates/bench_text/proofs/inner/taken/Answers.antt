@@ -1,7 +1,7 @@
 use mathlib.Core.Path.{sym, ◌∙◌}
 use native.Mathlib.Omega.{arith}
 use lib.ListN.{length-take}
-use Rattle.law.specs.Promise.{refuses, accepts}
+use Rattle.law.proofs.Promise.{refuses, accepts}
 use Rattle.bench_text.specs.Reading.{reading}
 use Rattle.bench_text.proofs.Passes.{short, its_tests, enough_room, worked}
 use Rattle.bench_text.proofs.inner.taken.Goals as goal

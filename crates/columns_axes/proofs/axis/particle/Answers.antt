@@ -1,7 +1,7 @@
 use mathlib.Core.Path.{refl, ◌∙◌}
 use Prim.Native.Nat.{zero-le}
 use native.Mathlib.Omega.{arith}
-use Rattle.law.specs.Loop.{over_none, over_turn, over_done}
+use Rattle.law.proofs.Loop.{over_none, over_turn, over_done}
 use Rattle.columns_axes.proofs.Laws.{still_ready, same_axis, both_axes, no_axis}
 use Rattle.columns_axes.proofs.axis.particle.Goals as goal
 

@@ -1,5 +1,5 @@
 use borrow.Author.Tests.{le-leb, lt-leb, lt-ltb, le-ltb}
-use Rattle.law.specs.Refusal.{goes_on, stops, ends}
+use Rattle.law.proofs.Refusals.{goes_on, stops, ends}
 use Rattle.law.specs.Truth.{refused, passed}
 use Rattle.columns_combine.specs.Combining.{has_places}
 use Rattle.columns_block.specs.Blocking.{refusals}

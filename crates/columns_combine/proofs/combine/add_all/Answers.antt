@@ -1,7 +1,7 @@
 use mathlib.Core.Path.{refl, ◌∙◌}
 use Prim.Native.Nat.{zero-le}
 use native.Mathlib.Omega.{arith}
-use Rattle.law.specs.Loop.{over_none, over_turn, over_done, over_stays}
+use Rattle.law.proofs.Loop.{over_none, over_turn, over_done, over_stays}
 use Rattle.columns_combine.specs.Summed.{summed}
 use borrow.Author.Rules.{rules}
 use Rattle.columns_combine.proofs.combine.add_all.Goals as goal

@@ -1,5 +1,5 @@
 use mathlib.Core.Path.{sym, ◌∙◌}
-use Rattle.law.specs.Promise.{accepts}
+use Rattle.law.proofs.Promise.{accepts}
 use Rattle.columns_make.specs.Making.{door, refusals, ready, refused_once}
 use Rattle.columns_make.proofs.inner.compute_columns.Goals as goal
 

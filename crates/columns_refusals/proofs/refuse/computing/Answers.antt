@@ -1,6 +1,6 @@
 use native.Mathlib.Omega.{arith}
 use borrow.Author.Tests.{le-leb, lt-leb}
-use Rattle.law.specs.Refusal.{goes_on, stops}
+use Rattle.law.proofs.Refusals.{goes_on, stops}
 use Rattle.law.specs.Truth.{refused, passed}
 use Rattle.step_routes.specs.Dense.{roomy}
 use Rattle.columns_refusals.specs.Refusing.{refusals, has_room}

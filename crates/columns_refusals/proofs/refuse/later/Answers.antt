@@ -1,4 +1,4 @@
-use Rattle.law.specs.Refusal.{goes_on, stops, ends}
+use Rattle.law.proofs.Refusals.{goes_on, stops, ends}
 use Rattle.law.specs.Truth.{refused, passed}
 use Rattle.matrix_shape.specs.Given.{held, pattern}
 use Rattle.columns_refusals.specs.Refusing.{later}

@@ -1,5 +1,5 @@
 use borrow.Author.Tests.{le-leb, lt-leb}
-use Rattle.law.specs.Refusal.{goes_on, stops, ends}
+use Rattle.law.proofs.Refusals.{goes_on, stops, ends}
 use Rattle.columns_table.specs.Clearing.{refusals}
 use Rattle.columns_table.proofs.refuse.clearing.Goals as goal
 

@@ -1,7 +1,7 @@
 use mathlib.Core.Path.{◌≡◌, ap}
 use mathlib.Core.Bool.{Bool, true, false, not, ◌&&◌}
 use borrow.Author.Tests.{leb-true, le-leb, lt-leb, lt-ltb, le-ltb, not-true, not-false}
-use Rattle.law.specs.Refusal.{goes_on, stops, ends}
+use Rattle.law.proofs.Refusals.{goes_on, stops, ends}
 use Rattle.law.specs.Truth.{both, refused, passed}
 use Rattle.law.specs.Room.{enough}
 use Rattle.columns_table.specs.Loading.{refusals, table_room}

@@ -1,6 +1,6 @@
 use mathlib.Core.Path.{refl}
 use Prim.Native.Nat.{zero-le}
-use Rattle.law.specs.Loop.{over_none, over_turn, over_done}
+use Rattle.law.proofs.Loop.{over_none, over_turn, over_done}
 use Rattle.law.specs.Every.{every}
 use borrow.Author.Rules.{rules}
 use Rattle.columns_table.proofs.table.each_once.Goals as goal

@@ -1,7 +1,7 @@
 use mathlib.Core.Path.{ap}
 use mathlib.Core.Bool.{not}
 use borrow.Author.Tests.{le-leb, lt-leb}
-use Rattle.law.specs.Refusal.{goes_on, stops, ends}
+use Rattle.law.proofs.Refusals.{goes_on, stops, ends}
 use Rattle.law.specs.Truth.{refused, passed}
 use Rattle.plan_fits.specs.Given.{laid}
 use Rattle.factor_doors.specs.Solving.{refusals}

@@ -1,6 +1,6 @@
 use mathlib.Core.Path.{refl, ◌∙◌}
 use native.Mathlib.Nat.{le_refl}
-use Rattle.law.specs.Loop.{over_none, over_turn, over_done}
+use Rattle.law.proofs.Loop.{over_none, over_turn, over_done}
 use Rattle.factor_load.specs.Load.{slots_into}
 use borrow.Author.Rules.{rules}
 use Rattle.factor_load.proofs.blocks.slots.Goals as goal

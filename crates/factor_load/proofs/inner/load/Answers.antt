@@ -1,6 +1,6 @@
 use mathlib.Core.Path.{refl, ◌∙◌}
 use Prim.Native.Nat.{zero-le}
-use Rattle.law.specs.Loop.{over_none, over_turn, over_done}
+use Rattle.law.proofs.Loop.{over_none, over_turn, over_done}
 use Rattle.factor_load.specs.Load.{load_of}
 use borrow.Author.Rules.{rules}
 use Rattle.factor_load.proofs.inner.load.Goals as goal

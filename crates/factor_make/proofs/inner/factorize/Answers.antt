@@ -1,6 +1,6 @@
 use mathlib.Core.Path.{refl, ◌∙◌}
 use Prim.Native.Nat.{◌+◌, zero-le}
-use Rattle.law.specs.Loop.{over_none, over_turn, over_done, over_stays}
+use Rattle.law.proofs.Loop.{over_none, over_turn, over_done, over_stays}
 use Rattle.factor_make.specs.Factor.{row_step, factor_of}
 use borrow.Author.Rules.{rules}
 use Rattle.factor_make.proofs.inner.factorize.Goals as goal

@@ -1,7 +1,7 @@
 use mathlib.Core.Path.{refl}
 use native.Mathlib.Omega.{arith}
 use lib.ListN.{length-set}
-use Rattle.factor_passes.specs.Held.{back_turn}
+use Rattle.factor_passes.proofs.Held.{back_turn}
 use Rattle.factor_passes.proofs.passes.back.Goals as goal
 
 pub take-requires : goal.take-requires

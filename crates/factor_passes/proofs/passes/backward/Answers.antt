@@ -1,9 +1,9 @@
 use mathlib.Core.Path.{refl, ◌∙◌}
 use Prim.Native.Nat.{zero-le}
 use native.Mathlib.Omega.{arith}
-use Rattle.law.specs.Loop.{over_none, over_turn, over_done}
+use Rattle.law.proofs.Loop.{over_none, over_turn, over_done}
 use Rattle.factor_passes.specs.Passes.{backward_of}
-use Rattle.factor_passes.specs.Held.{row_of}
+use Rattle.factor_passes.proofs.Held.{row_of}
 use borrow.Author.Rules.{rules}
 use Rattle.factor_passes.proofs.passes.backward.Goals as goal
 

@@ -2,9 +2,9 @@ use mathlib.Core.Path.{refl}
 use Prim.Native.Nat.{zero-le}
 use native.Mathlib.Omega.{arith}
 use lib.ListN.{length-set}
-use Rattle.law.specs.Loop.{over_none, over_turn, over_done}
+use Rattle.law.proofs.Loop.{over_none, over_turn, over_done}
 use Rattle.factor_passes.specs.Passes.{forward_step, forward_of}
-use Rattle.factor_passes.specs.Held.{row_of}
+use Rattle.factor_passes.proofs.Held.{row_of}
 use borrow.Author.Rules.{rules}
 use Rattle.factor_passes.proofs.passes.forward.Goals as goal
 

@@ -1,4 +1,4 @@
-use Rattle.factor_passes.specs.Held.{forward_bare, forward_less}
+use Rattle.factor_passes.proofs.Held.{forward_bare, forward_less}
 use Rattle.factor_passes.proofs.passes.forward_at.Goals as goal
 
 pub returns-then-i-from : goal.returns-then-i-from

@@ -1,7 +1,7 @@
 use mathlib.Core.Path.{refl}
 use native.Mathlib.Nat.{le_refl}
 use lib.ListN.{length-set}
-use Rattle.law.specs.Loop.{over_none, over_turn, over_done}
+use Rattle.law.proofs.Loop.{over_none, over_turn, over_done}
 use Rattle.factor_row.specs.Row.{entry_step, left_of}
 use borrow.Author.Rules.{rules}
 use native.Mathlib.Omega.{arith}

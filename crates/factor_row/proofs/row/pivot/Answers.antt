@@ -1,6 +1,6 @@
 use mathlib.Core.Path.{refl}
 use native.Mathlib.Nat.{le_refl}
-use Rattle.law.specs.Loop.{over_none, over_turn, over_done}
+use Rattle.law.proofs.Loop.{over_none, over_turn, over_done}
 use Rattle.factor_row.specs.Row.{square_step, pivot_of}
 use borrow.Author.Rules.{rules}
 use Rattle.factor_row.proofs.row.pivot.Goals as goal

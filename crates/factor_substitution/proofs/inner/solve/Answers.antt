@@ -2,7 +2,7 @@ use mathlib.Core.Path.{sym, ◌∙◌}
 use native.Mathlib.Nat.{le_of_eq}
 use native.Mathlib.Omega.{arith}
 use Rattle.matrix_shape.specs.Rows.{at}
-use Rattle.factor_passes.specs.Held.{held_of}
+use Rattle.factor_passes.proofs.Held.{held_of}
 use Rattle.factor_substitution.specs.Calls.{solve_calls}
 use Rattle.factor_substitution.proofs.inner.solve.Goals as goal
 

@@ -1,6 +1,6 @@
 use mathlib.Core.Path.{refl}
 use Prim.Native.Nat.{zero-le}
-use Rattle.law.specs.Loop.{over_none, over_turn, over_done}
+use Rattle.law.proofs.Loop.{over_none, over_turn, over_done}
 use Rattle.flat_runs.specs.Run.{dot_run}
 use borrow.Author.Rules.{rules}
 use Rattle.flat_runs.proofs.run.dot.Goals as goal

@@ -1,7 +1,7 @@
 use mathlib.Core.Path.{refl}
 use Prim.Native.Nat.{zero-le}
 use lib.ListN.{length-set}
-use Rattle.law.specs.Loop.{over_none, over_turn, over_done}
+use Rattle.law.proofs.Loop.{over_none, over_turn, over_done}
 use Rattle.flat_runs.specs.Run.{take_run}
 use borrow.Author.Rules.{rules}
 use Rattle.flat_runs.proofs.run.take.Goals as goal

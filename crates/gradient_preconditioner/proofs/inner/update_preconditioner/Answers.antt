@@ -2,7 +2,7 @@ use mathlib.Core.Path.{◌≡◌, refl, ◌∙◌}
 use Prim.Native.Nat.{◌+◌, ◌*◌, ◌≤◌, zero-le}
 use native.Mathlib.Omega.{arith}
 use lib.ListN.{length}
-use Rattle.law.specs.Mix.{mix_none, turn_stores}
+use Rattle.law.proofs.Mix.{mix_none, turn_stores}
 use Rattle.gradient_definition.specs.Inverse.{inverse_at}
 use borrow.Author.Rules.{rules}
 use Rattle.gradient_preconditioner.proofs.inner.update_preconditioner.Goals as goal

@@ -5,8 +5,10 @@ use mathlib.Core.Logic.{inr}
 use Prim.Native.Nat.{ℕ, ◌+◌, ◌<◌}
 use native.Mathlib.Omega.{arith}
 use lib.ListN.{get_or}
-use Rattle.law.specs.Gather.{table, length_table}
-use Rattle.law.specs.Store.{write_none, write_more, table_more, written_whole, written_long, written_other}
+use Rattle.law.specs.Gather.{table}
+use Rattle.law.proofs.Gather.{length_table}
+use Rattle.law.specs.Store.{written_whole, written_long, written_other}
+use Rattle.law.proofs.Store.{write_none, write_more, table_more}
 use Rattle.matrix_shape.specs.Made.{row_of, start_of, slot_of, starts_of, cols_of, slots_of, start_none, start_more, start_rise}
 use Rattle.matrix_pairs.specs.Pairs.{stored_by}
 use borrow.Author.Rules.{rules}

@@ -1,6 +1,7 @@
 use mathlib.Core.Path.{sym}
 use lib.Seq.{length-take-le}
 use Rattle.matrix_building.specs.Building as building
+use Rattle.matrix_building.proofs.Building as building_lemmas
 use Rattle.matrix_building.proofs.inner.build.Goals as goal
 
 pub slice_bounds-build-end-2 : goal.slice_bounds-build-end-2
@@ -30,4 +31,4 @@ build-requires c =
     }
 
 pub returns : goal.returns
-returns c = building.worked _ _ _ _ _ _ c.build.ensures
+returns c = building_lemmas.worked _ _ _ _ _ _ c.build.ensures

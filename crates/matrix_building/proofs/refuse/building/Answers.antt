@@ -1,9 +1,10 @@
 use mathlib.Core.Path.{ap}
 use mathlib.Core.Bool.{not}
 use borrow.Author.Tests.{le-leb, lt-leb}
-use Rattle.law.specs.Refusal.{goes_on, stops, ends}
+use Rattle.law.proofs.Refusals.{goes_on, stops, ends}
 use Rattle.law.specs.Truth.{refused, passed}
-use Rattle.matrix_building.specs.Building.{refusals, pairs_room}
+use Rattle.matrix_building.specs.Building.{refusals}
+use Rattle.matrix_building.proofs.Building.{pairs_room}
 use Rattle.matrix_building.proofs.refuse.building.Goals as goal
 
 pub returns-then-n-gt-PARTICLES : goal.returns-then-n-gt-PARTICLES

@@ -1,9 +1,9 @@
 use mathlib.Core.Path.{ap}
 use mathlib.Core.Bool.{not}
 use borrow.Author.Tests.{le-leb, lt-leb}
-use Rattle.law.specs.Refusal.{goes_on, stops, ends}
+use Rattle.law.proofs.Refusals.{goes_on, stops, ends}
 use Rattle.law.specs.Truth.{refused, passed}
-use Rattle.matrix_building.specs.Building.{pairs_room}
+use Rattle.matrix_building.proofs.Building.{pairs_room}
 use Rattle.matrix_building.specs.FromPairs.{refusals}
 use Rattle.matrix_building.proofs.refuse.from_pairs.Goals as goal
 

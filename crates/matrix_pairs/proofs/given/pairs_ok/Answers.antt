@@ -2,7 +2,7 @@ use borrow.Author.Rules.{rules}
 use mathlib.Core.Path.{◌≡◌}
 use Prim.Native.Nat.{zero-le}
 use native.Mathlib.Omega.{arith}
-use Rattle.law.specs.Every.{every_none, every_more}
+use Rattle.law.proofs.Every.{every_none, every_more}
 use Rattle.matrix_pairs.proofs.given.pairs_ok.Goals as goal
 
 pub loop-i-init : goal.loop-i-init

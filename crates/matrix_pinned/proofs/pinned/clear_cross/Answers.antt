@@ -1,6 +1,7 @@
 use mathlib.Core.Path.{◌≡◌}
 use native.Mathlib.Omega.{arith}
-use Rattle.matrix_pinned.specs.Mirrors.{mirror_of, crossed_is}
+use Rattle.matrix_pinned.specs.Mirrors.{mirror_of}
+use Rattle.matrix_pinned.proofs.Mirrors.{crossed_is}
 use Rattle.matrix_pinned.proofs.pinned.clear_cross.Goals as goal
 
 pub mirror-requires : goal.mirror-requires

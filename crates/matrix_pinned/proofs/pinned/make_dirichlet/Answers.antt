@@ -4,7 +4,7 @@ use native.Mathlib.Omega.{arith}
 use borrow.Author.Rules.{rules}
 use Rattle.matrix_shape.specs.Formed.{InRow}
 use Rattle.matrix_shape.specs.Rows.{at, row_end}
-use Rattle.matrix_pinned.specs.Mirrors.{cross_none, cross_at, cross_more, pinned_is}
+use Rattle.matrix_pinned.proofs.Mirrors.{cross_none, cross_at, cross_more, pinned_is}
 use Rattle.matrix_pinned.proofs.pinned.make_dirichlet.Goals as goal
 
 pub loop-k-init : goal.loop-k-init

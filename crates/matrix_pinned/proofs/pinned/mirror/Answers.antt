@@ -1,6 +1,6 @@
 use mathlib.Core.Path.{◌∙◌}
 use native.Mathlib.Omega.{arith}
-use Rattle.matrix_pinned.specs.Mirrors.{upper, lower, upper_slots, lower_slots}
+use Rattle.matrix_pinned.proofs.Mirrors.{upper, lower, upper_slots, lower_slots}
 use Rattle.matrix_pinned.proofs.pinned.mirror.Goals as goal
 
 pub slot_of-requires : goal.slot_of-requires

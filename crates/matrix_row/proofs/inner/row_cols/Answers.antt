@@ -2,7 +2,7 @@ use mathlib.Core.Path.{ap}
 use borrow.Author.Rules.{rules}
 use lib.ListN.{length}
 use Rattle.law.specs.Store.{part}
-use Rattle.matrix_row.specs.Row.{span_ok}
+use Rattle.matrix_row.proofs.Row.{span_ok}
 use Rattle.matrix_row.specs.declared.inner.Span.{Span}
 use Rattle.matrix_row.proofs.inner.row_cols.Goals as goal
 

@@ -1,6 +1,6 @@
 use borrow.Author.Rules.{rules}
 use lib.ListN.{length}
-use Rattle.matrix_row.specs.Row.{span_ok, span_long}
+use Rattle.matrix_row.proofs.Row.{span_ok, span_long}
 use Rattle.matrix_row.proofs.inner.row_len.Goals as goal
 
 pub overflow_sub-result : goal.overflow_sub-result

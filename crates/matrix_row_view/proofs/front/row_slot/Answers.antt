@@ -3,7 +3,7 @@ use mathlib.Core.Path.{sym}
 use native.Mathlib.Omega.{arith}
 use lib.ListN.{length, take}
 use lib.Seq.{length-take-le}
-use Rattle.matrix_row.specs.Row.{span_ok}
+use Rattle.matrix_row.proofs.Row.{span_ok}
 use Rattle.matrix_row_view.proofs.front.row_slot.Goals as goal
 
 pub slice_bounds-own-end : goal.slice_bounds-own-end

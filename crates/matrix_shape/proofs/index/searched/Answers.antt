@@ -2,7 +2,8 @@ use native.Mathlib.Omega.{arith}
 use Rattle.std.specs.Prelude.{ℕ, ◌-◌, ◌<◌, ◌≤◌}
 use mathlib.Core.Path.{◌≡◌}
 use Rattle.matrix_shape.specs.Halving.{halved}
-use Rattle.matrix_shape.specs.Search.{kept, Searched, searched_all, searched_half, searched_four, search_none, search_hit, search_miss}
+use Rattle.matrix_shape.specs.Search.{kept, Searched}
+use Rattle.matrix_shape.proofs.Search.{searched_all, searched_half, searched_four, search_none, search_hit, search_miss}
 use Rattle.matrix_shape.proofs.index.searched.Goals as goal
 
 pub returns-then-b-a : goal.returns-then-b-a

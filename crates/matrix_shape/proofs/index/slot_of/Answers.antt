@@ -1,5 +1,5 @@
 use mathlib.Core.Path.{◌∙◌}
-use Rattle.matrix_shape.specs.Search.{search_finds}
+use Rattle.matrix_shape.proofs.Search.{search_finds}
 use Rattle.matrix_shape.proofs.index.slot_of.Goals as goal
 
 pub searched-requires : goal.searched-requires

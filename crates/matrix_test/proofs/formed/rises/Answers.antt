@@ -1,7 +1,7 @@
 use mathlib.Core.Path.{refl}
 use Prim.Native.Nat.{zero-le}
 use borrow.Author.Rules.{rules}
-use Rattle.law.specs.Loop.{over_none, over_turn, over_done}
+use Rattle.law.proofs.Loop.{over_none, over_turn, over_done}
 use Rattle.law.specs.Every.{every}
 use Rattle.matrix_test.proofs.formed.rises.Goals as goal
 

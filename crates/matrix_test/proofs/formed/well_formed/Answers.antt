@@ -4,7 +4,7 @@ use mathlib.Core.Path.{sym, ◌∙◌}
 use Rattle.law.specs.Truth.{passed, refused}
 use Rattle.matrix_shape.specs.Formed.{well_formed, starts_is}
 use Rattle.matrix_shape.specs.Phases.{spread_of}
-use Rattle.matrix_walk.specs.Cursors.{walk_is}
+use Rattle.matrix_walk.proofs.Cursors.{walk_is}
 use Rattle.matrix_test.proofs.formed.well_formed.Goals as goal
 
 pub returns-then-not-starts_ok : goal.returns-then-not-starts_ok

@@ -3,7 +3,7 @@ use Prim.Native.Nat.{◌+◌, ◌*◌, ◌≤◌, zero-le}
 use native.Mathlib.Omega.{arith}
 use borrow.Author.Rules.{rules}
 use lib.ListN.{length}
-use Rattle.law.specs.Mix.{mix_none, turn_stores}
+use Rattle.law.proofs.Mix.{mix_none, turn_stores}
 use Rattle.matrix_values.specs.Product.{product_at, row_reach}
 use Rattle.matrix_values.proofs.inner.mul.Goals as goal
 

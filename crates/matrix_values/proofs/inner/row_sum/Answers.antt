@@ -1,5 +1,5 @@
 use borrow.Author.Rules.{rules}
-use Rattle.law.specs.Loop.{over_none, over_turn, over_done}
+use Rattle.law.proofs.Loop.{over_none, over_turn, over_done}
 use Rattle.matrix_values.specs.Product.{row_sum}
 use Rattle.matrix_values.proofs.inner.row_sum.Goals as goal
 

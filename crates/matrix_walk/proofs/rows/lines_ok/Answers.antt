@@ -5,12 +5,13 @@ use Prim.Native.Nat.{◌<◌, zero-le}
 use native.Mathlib.Omega.{arith}
 use lib.ListN.{length, length-set}
 use borrow.Author.Rules.{rules}
-use Rattle.law.specs.Every.{every_none}
+use Rattle.law.proofs.Every.{every_none}
 use Rattle.law.specs.Truth.{passed, refused}
 use borrow.Author.Tests.{not-false}
 use Rattle.matrix_shape.specs.Rows.{row_end}
 use Rattle.matrix_shape.specs.Phases.{ends_in}
-use Rattle.matrix_walk.specs.Walk.{lined_not, row_no_home, row_no_pairs, row_tested, row_stands, home_is}
+use Rattle.matrix_walk.specs.Walk.{lined_not, row_no_home, row_no_pairs, row_tested, home_is}
+use Rattle.matrix_walk.proofs.Walk.{row_stands}
 use Rattle.matrix_walk.proofs.rows.lines_ok.Goals as goal
 
 pub loop-r-init : goal.loop-r-init

@@ -1,7 +1,7 @@
 use mathlib.Core.Path.{sym}
 use native.Mathlib.Omega.{arith}
 use lib.Seq.{length-take-le}
-use Rattle.plan_doors.specs.Planning.{ready_parts, whole_is}
+use Rattle.plan_doors.proofs.Planning.{ready_parts, whole_is}
 use Rattle.plan_doors.proofs.front.plan.Goals as goal
 
 pub slice_bounds-plan-end : goal.slice_bounds-plan-end

@@ -1,5 +1,5 @@
 use borrow.Author.Tests.{le-leb, lt-leb}
-use Rattle.law.specs.Refusal.{goes_on, stops, ends}
+use Rattle.law.proofs.Refusals.{goes_on, stops, ends}
 use mathlib.Core.Path.{sym, ◌∙◌}
 use Rattle.matrix_shape.specs.Given.{held}
 use Rattle.plan_doors.specs.Planning.{early}

@@ -1,6 +1,8 @@
 use mathlib.Core.Path.{sym, ◌∙◌}
-use Rattle.plan_fits.specs.Fits.{fits_ok, planned_is}
-use Rattle.plan_fits.specs.Lists.{plan_of, placed_of}
+use Rattle.plan_fits.specs.Fits.{fits_ok}
+use Rattle.plan_fits.proofs.Fits.{planned_is}
+use Rattle.plan_fits.specs.Lists.{placed_of}
+use Rattle.plan_fits.proofs.Lists.{plan_of}
 use Rattle.plan_inside.specs.Half.{half_is}
 use Rattle.plan_inside.proofs.inside.fits.Goals as goal
 

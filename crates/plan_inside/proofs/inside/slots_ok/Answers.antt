@@ -1,7 +1,7 @@
 use mathlib.Core.Path.{ap}
 use native.Mathlib.Omega.{arith}
 use borrow.Author.Rules.{rules}
-use Rattle.law.specs.Loop.{over_none, over_turn, over_done}
+use Rattle.law.proofs.Loop.{over_none, over_turn, over_done}
 use Rattle.law.specs.Every.{every}
 use Rattle.matrix_shape.specs.Rows.{at}
 use Rattle.plan_inside.specs.Half.{two_ok}

@@ -3,8 +3,9 @@ use mathlib.Core.Path.{◌≡◌, refl, ap, ◌∙◌}
 use Prim.Native.Nat.{ℕ, ◌*◌, zero-le}
 use native.Mathlib.Omega.{arith}
 use lib.ListN.{length, length-set}
-use Rattle.law.specs.Gather.{length_table}
-use Rattle.law.specs.Store.{write_none, written_whole}
+use Rattle.law.proofs.Gather.{length_table}
+use Rattle.law.specs.Store.{written_whole}
+use Rattle.law.proofs.Store.{write_none}
 use Rattle.order_definition.specs.Envelope.{first_col}
 use Rattle.plan_layout.specs.Laid.{firsts_put}
 use Rattle.plan_layout.proofs.rows.fill_first.Goals as goal

@@ -3,8 +3,9 @@ use mathlib.Core.Path.{◌≡◌, refl, sym, ap, ◌∙◌}
 use Prim.Native.Nat.{ℕ, ◌+◌, ◌-◌, zero-le}
 use native.Mathlib.Omega.{arith}
 use lib.ListN.{length, length-set}
-use Rattle.law.specs.Gather.{length_table}
-use Rattle.law.specs.Store.{write_none, written_whole, table_turn}
+use Rattle.law.proofs.Gather.{length_table}
+use Rattle.law.specs.Store.{written_whole}
+use Rattle.law.proofs.Store.{write_none, table_turn}
 use Rattle.matrix_shape.specs.Rows.{at}
 use Rattle.plan_layout.specs.Starts.{start_at, start_none, start_more}
 use Rattle.plan_layout.proofs.rows.fill_starts.Goals as goal

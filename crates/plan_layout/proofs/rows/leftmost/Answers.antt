@@ -1,6 +1,6 @@
 use borrow.Author.Rules.{rules}
 use native.Mathlib.Omega.{arith}
-use Rattle.law.specs.Loop.{over_none, over_turn, over_done}
+use Rattle.law.proofs.Loop.{over_none, over_turn, over_done}
 use Rattle.plan_layout.specs.Leftmost.{walked}
 use Rattle.plan_layout.proofs.rows.leftmost.Goals as goal
 

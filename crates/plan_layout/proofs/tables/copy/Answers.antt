@@ -3,8 +3,10 @@ use mathlib.Core.Path.{◌≡◌, refl, sym, ◌∙◌}
 use Prim.Native.Nat.{zero-le}
 use native.Mathlib.Omega.{arith}
 use lib.ListN.{length, length-set}
-use Rattle.law.specs.Gather.{table, length_table, table_of}
-use Rattle.law.specs.Store.{write_none, written_whole, table_turn}
+use Rattle.law.specs.Gather.{table}
+use Rattle.law.proofs.Gather.{length_table, table_of}
+use Rattle.law.specs.Store.{written_whole}
+use Rattle.law.proofs.Store.{write_none, table_turn}
 use Rattle.matrix_shape.specs.Rows.{at}
 use Rattle.plan_layout.proofs.tables.copy.Goals as goal
 

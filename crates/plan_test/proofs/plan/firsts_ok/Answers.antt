@@ -1,6 +1,6 @@
 use Prim.Native.Nat.{zero-le}
 use borrow.Author.Rules.{rules}
-use Rattle.law.specs.Loop.{over_none, over_turn, over_done}
+use Rattle.law.proofs.Loop.{over_none, over_turn, over_done}
 use Rattle.law.specs.Every.{every}
 use Rattle.plan_fits.specs.Fits.{firsts_ok}
 use Rattle.plan_test.proofs.plan.firsts_ok.Goals as goal

@@ -6,8 +6,9 @@ use mathlib.Core.Bool.{true, false, ◌&&◌}
 use Rattle.law.specs.Limit.{particles}
 use Rattle.law.specs.Truth.{both}
 use Rattle.plan_fits.specs.Fits.{undo_ok, firsts_ok, plan_rules_ok}
-use Rattle.plan_fits.specs.Lists.{lows_of}
-use Rattle.plan_test.specs.Quick.{step_ok, quick_is}
+use Rattle.plan_fits.proofs.Lists.{lows_of}
+use Rattle.plan_test.specs.Quick.{step_ok}
+use Rattle.plan_test.proofs.Quick.{quick_is}
 use Rattle.plan_test.proofs.plan.plan_ok.Goals as goal
 
 -- the tests of order and first columns, and then those of the row starts

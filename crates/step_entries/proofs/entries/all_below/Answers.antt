@@ -1,5 +1,5 @@
 use Prim.Native.Nat.{zero-le}
-use Rattle.law.specs.Loop.{over_none, over_turn, over_done}
+use Rattle.law.proofs.Loop.{over_none, over_turn, over_done}
 use Rattle.law.specs.Every.{every}
 use Rattle.step_entries.specs.Entries.{below}
 use borrow.Author.Rules.{rules}

@@ -1,6 +1,6 @@
 use Prim.Native.Nat.{zero-le}
 use native.Mathlib.Omega.{arith}
-use Rattle.law.specs.Loop.{over_none, over_turn, over_done}
+use Rattle.law.proofs.Loop.{over_none, over_turn, over_done}
 use Rattle.law.specs.Every.{some}
 use Rattle.step_entries.specs.Entries.{any_free}
 use borrow.Author.Rules.{rules}

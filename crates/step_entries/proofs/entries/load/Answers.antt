@@ -1,7 +1,7 @@
 use mathlib.Core.Path.{refl, ◌∙◌}
 use Prim.Native.Nat.{zero-le}
 use native.Mathlib.Omega.{arith}
-use Rattle.law.specs.Loop.{over_none, over_turn, over_done}
+use Rattle.law.proofs.Loop.{over_none, over_turn, over_done}
 use Rattle.step_entries.specs.Entries.{loaded}
 use borrow.Author.Rules.{rules}
 use Rattle.step_entries.proofs.entries.load.Goals as goal

@@ -1,5 +1,5 @@
 use Prim.Native.Nat.{zero-le}
-use Rattle.law.specs.Loop.{over_none, over_turn, over_done}
+use Rattle.law.proofs.Loop.{over_none, over_turn, over_done}
 use Rattle.step_entries.specs.Entries.{raw_gain}
 use borrow.Author.Rules.{rules}
 use Rattle.step_entries.proofs.entries.raw_gain.Goals as goal

@@ -1,5 +1,5 @@
 use mathlib.Core.Path.{sym, ◌∙◌}
-use Rattle.law.specs.Promise.{refuses, accepts}
+use Rattle.law.proofs.Promise.{refuses, accepts}
 use Rattle.step_response.specs.Responding.{door, ready}
 use Rattle.step_response.proofs.inner.response_into.Goals as goal
 

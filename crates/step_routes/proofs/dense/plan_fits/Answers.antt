@@ -1,5 +1,5 @@
 use borrow.Author.Tests.{not-false}
-use Rattle.law.specs.Refusal.{skips, applies}
+use Rattle.law.proofs.Refusals.{skips, applies}
 use Rattle.step_routes.proofs.dense.plan_fits.Goals as goal
 
 pub returns-then-not-dense : goal.returns-then-not-dense

@@ -1,4 +1,4 @@
-use Rattle.law.specs.Refusal.{skips, applies}
+use Rattle.law.proofs.Refusals.{skips, applies}
 use Rattle.law.specs.Truth.{refused, passed}
 use Rattle.plan_fits.specs.Given.{laid}
 use Rattle.step_routes.specs.Dense.{plan_held}

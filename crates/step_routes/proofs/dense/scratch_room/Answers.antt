@@ -1,5 +1,5 @@
 use mathlib.Core.Path.{refl}
-use Rattle.law.specs.Refusal.{skips, applies}
+use Rattle.law.proofs.Refusals.{skips, applies}
 use Rattle.step_routes.proofs.dense.scratch_room.Goals as goal
 
 pub returns-then-not-dense : goal.returns-then-not-dense

@@ -1,4 +1,4 @@
-use Rattle.law.specs.Refusal.{goes_on, stops, ends}
+use Rattle.law.proofs.Refusals.{goes_on, stops, ends}
 use Rattle.law.specs.Truth.{refused, passed}
 use Rattle.step_routes.specs.Dense.{ends_early, by_settings}
 use Rattle.step_routes.proofs.refuse.later.Goals as goal

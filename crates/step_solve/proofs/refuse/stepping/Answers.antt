@@ -1,5 +1,5 @@
 use borrow.Author.Tests.{le-leb, lt-leb}
-use Rattle.law.specs.Refusal.{goes_on, stops}
+use Rattle.law.proofs.Refusals.{goes_on, stops}
 use Rattle.law.specs.Truth.{refused, passed}
 use Rattle.step_routes.specs.Dense.{roomy}
 use Rattle.step_solve.specs.Stepping.{refusals}

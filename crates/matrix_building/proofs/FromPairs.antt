@@ -1,0 +1,34 @@
+-- What follows of specs/FromPairs.antt: its theorems, apart from the definitions.
+use Rattle.std.specs.Prelude.{ℕ, ◌*◌, ◌≤◌, ◌≡◌, true, List, [], ◌∷◌, length, leb, Float}
+use Rattle.std.proofs.Common.{ap₂, arith}
+use Rattle.law.specs.Every.{every}
+use Rattle.law.specs.Limit.{particles, pairs as pairLimit}
+use Rattle.law.specs.Mix.{mix}
+use Rattle.law.specs.Number.{too_many_particles, too_many_entries, short_buffer, out_of_range}
+use Rattle.law.specs.Room.{Room, enough}
+use Rattle.law.proofs.Room.{enough_is}
+use Rattle.law.specs.Refusal.{Test, unless, Rising, verdict}
+use Rattle.law.proofs.Refusals.{all_pass}
+use Rattle.law.specs.Promise.{Door}
+use Rattle.plane.specs.Lent.{flat}
+use Rattle.matrix_pairs.specs.Pairs.{pair_ok_at}
+use Rattle.matrix_build.specs.Build.{room_of}
+use Rattle.matrix_values.specs.Blocks.{zero_block}
+use Rattle.matrix_building.specs.Building as building
+use Rattle.matrix_building.proofs.Building as building_lemmas
+use Rattle.matrix_building.specs.FromPairs.{In, Out, Ready, in_order, left, refusals, values_room, work}
+
+pub ready : (i : In) → verdict (refusals i) ≡ 0 → Ready i
+unfolding refusals values_room
+ready i h =
+    let p = all_pass 1 (refusals i) (omega arith) (in_order i) h in
+    record {
+      pattern = building_lemmas.ready_of i.pattern p.0 p.1.0 p.1.1.0 p.1.1.1.1.0;
+      in_blocks = (enough_is true (values_room i.pattern.n i.pattern.count i.blocks) p.1.1.1.0).0;
+    }
+
+pub worked : (i : In) (o : building.Out) (blocks : List Float) → o ≡ building.work i.pattern
+    → blocks ≡ mix 4 (room_of i.pattern.n i.pattern.count) (λ k. flat zero_block) i.blocks
+    → left o blocks ≡ work i
+unfolding work
+worked i o blocks e f = ap₂ left e f
