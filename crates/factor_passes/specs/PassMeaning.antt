@@ -18,7 +18,6 @@ use Rattle.plane.specs.Plane.{◌⊖◌, ◌⊗◌, ◌⊘◌}
 use Rattle.factor_passes.specs.Passes.{sum_step, row_sum, forward_by, forward_step, forward_of, taken_step, taken_of, back_step, backward_of}
 
 module _ (f : ℕ → ℕ) (l : ℕ → ℕ → Float) where
-
   -- entry i less row j's part, where row j has the column i
   unfoldable pub less_of : ℕ → ℕ → Float → Float → Float
   less_of j i x t = cond (leb (f j) i) (t ⊖ l j i ⊗ x) t

@@ -1,6 +1,6 @@
 -- What follows of specs/Along.antt: its theorems, apart from the definitions.
 use Prim.Native.Nat.{ℕ, zero, suc, ◌≤◌}
-use Rattle.std.specs.Prelude.{◌≡◌, List, [], ◌∷◌, length, get_or, drop}
+use Rattle.std.specs.Prelude.{◌≡◌, List, length, get_or, drop}
 use Rattle.std.proofs.Math.Path.{refl}
 use Rattle.std.proofs.Common.{arith, drop-cons}
 use Rattle.std.proofs.Math.Nat.{sub-zero, zero-add}

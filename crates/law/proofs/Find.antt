@@ -1,18 +1,15 @@
 -- What follows of specs/Find.antt: its theorems, apart from the definitions.
-use Prim.Native.Nat.{ℕ, zero, suc, ◌+◌, ◌-◌, ◌≤◌, ◌<◌}
+use Prim.Native.Nat.{ℕ, ◌-◌, ◌≤◌, ◌<◌}
 use Rattle.std.proofs.Math.Path.{◌≡◌, refl, sym}
 use Rattle.std.proofs.Common.{◌∙◌, eq-eqb, ne_eqb}
-use Rattle.std.specs.Prelude.{Bool, not, cond, eqb}
+use Rattle.std.specs.Prelude.{Bool, not, eqb}
 use Rattle.std.proofs.Math.Bool.{true, false}
-use Rattle.std.proofs.Math.Logic.{⊎_elim}
 use native.Mathlib.Omega.{arith}
-use Rattle.law.specs.Truth.{below_or}
 use Rattle.law.specs.Every.{some}
 use Rattle.law.proofs.Every.{some_at, some_of}
 use Rattle.law.specs.Find.{find, find_none, seek, seek_in}
 
 module _ (p : ℕ → Bool) (d : ℕ) where
-
   -- where d is none of the range, the answer d says that none passes
   pub find_tells : (a b : ℕ) → b ≤ d → some p a b ≡ not (eqb (find p a b d) d)
   unfolding find

@@ -1,11 +1,10 @@
 -- What follows of specs/Gather.antt: its theorems, apart from the definitions.
-use Rattle.std.specs.Prelude.{ℕ, zero, suc, ◌+◌, ◌*◌, ◌≤◌, ◌<◌, ◌≡◌, refl}
+use Rattle.std.specs.Prelude.{ℕ, ◌+◌, ◌*◌, ◌≤◌, ◌<◌, ◌≡◌, refl}
 use Rattle.std.proofs.Math.Path.{ap}
 use Rattle.std.proofs.Common.{sym, ◌∙◌, ⊎_elim, arith, mul-zero, mul-suc, add-one, ext_get_or}
 use mathlib.Core.List.{List, [], ◌∷◌, ◌++◌, append_assoc, append-nil}
 use Rattle.std.proofs.Math.ListN.{length, get_or, length-append, get_or-append}
 use Rattle.std.proofs.Math.Seq.{get_or-append-add}
-use Rattle.law.specs.Loop.{over}
 use Rattle.law.proofs.Loop.{over_none, over_more, from}
 use Rattle.law.specs.Truth.{below_or}
 use Rattle.law.specs.Gather.{gather, table, up_to}

@@ -3,12 +3,11 @@ use Rattle.std.specs.Prelude.{ℕ, ◌+◌, ◌-◌, ◌≤◌, ◌<◌, ◌≡�
 use Rattle.std.proofs.Common.{ap, sym, ◌∙◌, append-nil, ⊎_elim, arith, add-zero, length-append}
 use Rattle.law.proofs.Loop.{from}
 use Rattle.law.specs.Truth.{below_or}
-use Rattle.law.specs.Gather.{gather, up_to}
-use Rattle.law.proofs.Gather.{gather_none, gather_more, gather_split, gather_same, gather_at, gather_in, up_to_more, up_to_rise}
+use Rattle.law.specs.Gather.{up_to}
+use Rattle.law.proofs.Gather.{gather_more, gather_split, gather_same, gather_at, gather_in, up_to_more, up_to_rise}
 use Rattle.law.specs.Keep.{keep, one, only_if, rank}
 
 module _ (p : ℕ → Bool) where
-
   -- a number that passes stands at the place that is its rank
   pub keep_has : (n c : ℕ) → c < n → p c ≡ true → (rank p c < rank p n) × (get_or (keep p 0 n) (rank p c) 0 ≡ c)
   keep_has n c l h =

@@ -1,6 +1,6 @@
 -- What follows of specs/Mix.antt: its theorems, apart from the definitions.
-use Rattle.std.specs.Prelude.{ℕ, ◌+◌, ◌*◌, ◌-◌, ◌≤◌, ◌<◌, ◌≡◌, refl, List, [], ◌∷◌, ◌++◌, get_or, drop, take}
-use Rattle.std.proofs.Common.{ap, sym, ◌∙◌, subst, append_assoc, append-nil, ⊎_elim, inl, inr, arith, mul-zero, mul-suc, mul-le-mul_left, add-one, length-append, length-drop, take-append-drop, get_or-append-add, get_or-drop, get_or-take, length-take-le, ext_get_or}
+use Rattle.std.specs.Prelude.{ℕ, ◌+◌, ◌*◌, ◌-◌, ◌≤◌, ◌<◌, ◌≡◌, List, ◌++◌, get_or, drop, take}
+use Rattle.std.proofs.Common.{ap, sym, ◌∙◌, subst, append-nil, ⊎_elim, inl, inr, arith, mul-zero, mul-suc, mul-le-mul_left, add-one, length-append, length-drop, take-append-drop, get_or-append-add, get_or-drop, get_or-take, length-take-le, ext_get_or}
 use Rattle.std.proofs.Math.ListN.{length}
 use Rattle.std.proofs.Math.Seq.{sets-eq, take_at, drop-drop, drop-append-add, drop-length}
 use Rattle.law.specs.Truth.{below_or, same_or}

@@ -4,16 +4,11 @@ use Rattle.std.specs.Prelude.{◌≡◌}
 use Rattle.std.proofs.Common.{sym, ap, ◌∙◌}
 use seplogic.Ra.Ura.{Ura}
 use base.Logic.{SProp, ent, sep, emp, ex, id⊢, via, ex_i, ex_e, mono_r, emp∗, comm∗}
-use prog.Memory.{Memory}
-use prog.Routine.{Routine}
 use types.Logic.{Logic, sem}
-use contract.Monad.{Fun, fact, fact_i, fact_mono}
+use contract.Monad.{fact, fact_i, fact_mono}
 use contract.Lifetimes.{Lfts}
-use denote.Signature.{types_at}
-use denote.Laws.{Ises, Are}
-use denote.Triple.Entry.{Args, Vals, Res}
+use denote.Triple.Entry.{Args, Res}
 use denote.Triple.Clauses.{Ended, Lasts, lasts}
-use denote.Triple.Spec.{Spec}
 use Rattle.law.specs.Refusal.{verdict}
 use Rattle.law.specs.Promise.{Door, Promise, Counted, outcome, by}
 use Rattle.law.specs.One.{Holding, One, OneOutcome, Outcome, Passed, Says}
@@ -21,7 +16,6 @@ use Rattle.law.specs.One.{Holding, One, OneOutcome, Outcome, Passed, Says}
 -- OF A CONTRACT THAT SAYS A PLAIN THING P of the answer and of what each `&mut` holds at the exit
 module _ (T : Ended)
     (P : (κs : Lfts T.signature.lifetimes) (a : Args T.signature κs) → Res T.signature κs → Lasts T κs a → Type 0) where
-
   pub plainly : ((κs : Lfts T.signature.lifetimes) (a : Args T.signature κs) → Passed T κs a → One (λ (o : Outcome T κs a). P κs a o.0 o.1))
       → OneOutcome T (Says T P)
   plainly h κs a p = (o, λ M 𝓤 𝓛 mem run g. (id⊢ 𝓤 (emp 𝓤), kept M 𝓤 𝓛, λ r. alone M 𝓤 𝓛 r))

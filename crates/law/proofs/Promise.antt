@@ -1,11 +1,11 @@
 -- What follows of specs/Promise.antt: its theorems, apart from the definitions.
-use Rattle.std.specs.Prelude.{◌≡◌, List, ◌⊎◌}
+use Rattle.std.specs.Prelude.{◌≡◌, ◌⊎◌}
 use Rattle.std.proofs.Math.Path.{refl, ap}
 use Rattle.std.proofs.Common.{sym, ◌∙◌}
 use Rattle.std.proofs.Math.Logic.{inl, inr}
 use native.Mathlib.Omega.{arith}
 use Prim.Native.Nat.{ℕ, zero, suc, ◌≤◌, ◌<◌}
-use Rattle.law.specs.Refusal.{Test, verdict, Rising, Passed, Fails}
+use Rattle.law.specs.Refusal.{verdict, Passed, Fails}
 use Rattle.law.proofs.Refusals.{all_pass, none_fails, it_fails, it_is_lowest}
 use Rattle.law.specs.Promise.{Counted, Door, IsRefusal, IsWork, Promise, by, outcome}
 
@@ -52,7 +52,6 @@ one_count d counts i t o p u v h g =
 
 -- WHAT A PROMISE SAYS OF AN OUTCOME: it is the work, and the number is 0; or it is the refusal by the number, which is above 0
 module _ {I O : Type 0} (d : Door I O) (i : I) (o : O) where
-
   pub work_or_refusal : Promise d i o → (IsWork d i o) ⊎ ((k : ℕ) × (IsRefusal d i o) k)
   unfolding outcome
   work_or_refusal = go (verdict (d.tests i)) refl

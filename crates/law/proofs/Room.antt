@@ -1,5 +1,5 @@
 -- What follows of specs/Room.antt: its theorems, apart from the definitions.
-use Rattle.std.specs.Prelude.{ℕ, ◌≤◌, ◌≡◌, refl, Bool, true, ◌&&◌, List, [], ◌∷◌, leb}
+use Rattle.std.specs.Prelude.{◌≡◌, Bool, true, ◌&&◌, [], ◌∷◌, leb}
 use Rattle.std.proofs.Common.{leb-true, le-leb}
 use Rattle.law.specs.Truth.{both, and_true}
 use Rattle.law.specs.Room.{Enough, Room, enough}

@@ -1,22 +1,17 @@
 -- What follows of specs/Store.antt: its theorems, apart from the definitions.
-use Prim.Native.Nat.{ℕ, zero, suc, ◌+◌, ◌-◌, ◌≤◌, ◌<◌}
-use Rattle.std.specs.Prelude.{◌≡◌, ◌⊎◌, set, take, replicate}
-use Rattle.std.proofs.Math.Path.{refl, ap}
-use Rattle.std.proofs.Common.{sym, ◌∙◌, add-one, length-set, length-drop, get_or-take, get_or-drop, get_or-append-add, drop_at}
-use mathlib.Core.List.{List, [], ◌∷◌, ◌++◌, append-nil, append_assoc}
-use Rattle.std.proofs.Math.Logic.{⊎_elim, inl, inr}
+use Prim.Native.Nat.{ℕ, ◌+◌}
+use Rattle.std.specs.Prelude.{◌≡◌, set}
+use Rattle.std.proofs.Math.Path.{ap}
+use Rattle.std.proofs.Common.{◌∙◌}
+use mathlib.Core.List.{List, [], ◌∷◌}
 use native.Mathlib.Omega.{arith}
-use Rattle.std.proofs.Math.Nat.{add-zero, zero-add}
-use Rattle.std.proofs.Math.ListN.{length, get_or, drop, get_or-append}
-use Rattle.std.proofs.lemmas.List.{length-replicate, replicate-append-replicate}
-use Rattle.std.proofs.lemmas.List.Edits.{sets, sets-eq}
-use Rattle.std.proofs.Math.Seq.{length-sets, drop-length, drop-set-lt, length-take-le, get_or-set_other}
+use Rattle.std.proofs.Math.Nat.{zero-add}
+use Rattle.std.proofs.Math.ListN.{length}
 use Rattle.law.specs.Gather.{gather, up_to, table}
 use Rattle.law.proofs.Gather.{gather_none, gather_more, up_to_table}
 use Rattle.law.specs.Store.{written, written_append}
 
 module _ {A : Type 0} where
-
   -- before the first part
   pub write_none : (g : ℕ → List A) (l : List A) (i a : ℕ) → l ≡ written l i (gather g a a)
   unfolding written

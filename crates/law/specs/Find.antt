@@ -1,13 +1,11 @@
 -- THE FIRST NUMBER OF A RANGE THAT PASSES A TEST, and another number where none does.
 use Prim.Native.Nat.{ℕ, zero, suc, ◌+◌, ◌-◌, ◌≤◌, ◌<◌}
-use Rattle.std.proofs.Math.Path.{◌≡◌, refl, sym}
-use Rattle.std.proofs.Common.{◌∙◌, eq-eqb, ne_eqb}
-use Rattle.std.specs.Prelude.{Bool, not, cond, eqb}
+use Rattle.std.proofs.Math.Path.{◌≡◌, refl}
+use Rattle.std.specs.Prelude.{Bool, cond}
 use Rattle.std.proofs.Math.Bool.{true, false}
 use Rattle.std.proofs.Math.Logic.{⊎_elim}
 use native.Mathlib.Omega.{arith}
 use Rattle.law.specs.Truth.{below_or}
-use Rattle.law.specs.Every.{some}
 
 -- among n numbers from a on, d where none passes. What a `let` binds waits, so nothing past the first is looked at
 unfoldable pub seek : (ℕ → Bool) → ℕ → ℕ → ℕ → ℕ

@@ -1,7 +1,6 @@
 -- THE NUMBERS OF A RANGE THAT PASS A TEST, the least first, and the place at which each stands.
-use Rattle.std.specs.Prelude.{ℕ, ◌+◌, ◌-◌, ◌≤◌, ◌<◌, ◌≡◌, refl, Bool, true, false, List, [], ◌∷◌, ◌++◌, length, get_or}
-use Rattle.std.proofs.Common.{ap, sym, ◌∙◌, append-nil, ⊎_elim, arith, add-zero, length-append}
-use Rattle.law.specs.Truth.{below_or}
+use Rattle.std.specs.Prelude.{ℕ, ◌≤◌, ◌<◌, ◌≡◌, refl, Bool, true, false, List, [], ◌∷◌, length}
+use Rattle.std.proofs.Common.{arith}
 use Rattle.law.specs.Gather.{gather, up_to}
 
 -- one number or none

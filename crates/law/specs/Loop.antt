@@ -1,8 +1,6 @@
 -- WHAT A LOOP COMPUTES: the step f applied at a, then at a + 1, up to and without b. The invariant of a loop is 'the state is `over f a k` of the
 -- state before it'; its three facts are `over_none`, `over_turn` and `over_done`.
-use Rattle.std.specs.Prelude.{ℕ, zero, suc, ◌+◌, ◌-◌, ◌≤◌, ◌<◌, ◌≡◌, refl}
-use Rattle.std.proofs.Common.{ap, sym, ◌∙◌, arith, zero-add, add-zero, le_refl, le_trans}
-use Rattle.std.proofs.Math.Nat.{sub_self, sub-zero}
+use Rattle.std.specs.Prelude.{ℕ, zero, suc, ◌+◌, ◌-◌}
 
 -- n turns, from a
 unfoldable pub fold : {S : Type 0} → (ℕ → S → S) → ℕ → ℕ → S → S

@@ -1,21 +1,18 @@
 -- ONE OUTCOME: what a call ensures holds of one outcome, and of no other. Said of the contract that the call's own theorem cites.
 use Prim.Native.Nat.{ℕ, zero, suc}
 use Rattle.std.specs.Prelude.{◌≡◌}
-use Rattle.std.proofs.Common.{sym, ap, ◌∙◌}
 use seplogic.Ra.Ura.{Ura}
-use base.Logic.{SProp, ent, sep, emp, ex, id⊢, via, ex_i, ex_e, mono_r, emp∗, comm∗}
+use base.Logic.{SProp, ent, sep, emp, ex}
 use prog.Memory.{Memory}
 use prog.Routine.{Routine}
 use types.Logic.{Logic, sem}
-use contract.Monad.{Fun, fact, fact_i, fact_mono}
+use contract.Monad.{Fun, fact}
 use contract.Lifetimes.{Lfts}
 use denote.Signature.{types_at}
 use denote.Laws.{Ises, Are}
 use denote.Triple.Entry.{Args, Vals, Res}
 use denote.Triple.Clauses.{Ended, Lasts, lasts}
 use denote.Triple.Spec.{Spec}
-use Rattle.law.specs.Refusal.{verdict}
-use Rattle.law.specs.Promise.{Door, Promise, Counted, outcome, by}
 
 -- P holds of something, and of nothing else
 abbrev pub One : {O : Type 0} → (O → Type 0) → Type 0

@@ -1,11 +1,7 @@
 -- THE PROMISE OF A DOOR: what it answers and leaves behind every `&mut`, as one value, is a definition of what it was handed.
-use Rattle.std.specs.Prelude.{◌≡◌, List, ◌⊎◌}
-use Rattle.std.proofs.Math.Path.{refl, ap}
-use Rattle.std.proofs.Common.{sym, ◌∙◌}
-use Rattle.std.proofs.Math.Logic.{inl, inr}
-use native.Mathlib.Omega.{arith}
-use Prim.Native.Nat.{ℕ, zero, suc, ◌≤◌, ◌<◌}
-use Rattle.law.specs.Refusal.{Test, verdict, Rising, Passed, Fails}
+use Rattle.std.specs.Prelude.{◌≡◌, List}
+use Prim.Native.Nat.{ℕ, zero, suc, ◌<◌}
+use Rattle.law.specs.Refusal.{Test, verdict, Rising}
 
 -- a door: its list of refusals, whose numbers never fall; its work; and what a refusal answers and leaves
 pub record Door (I O : Type 0) : Type 1 where

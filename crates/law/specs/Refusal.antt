@@ -1,8 +1,6 @@
 -- THE REFUSAL LIST of a door: numbered tests, in the order of the numbers (RULES.md § 3). The
 -- answer is the number of the first test that fails, and 0 where none does.
-use Rattle.std.specs.Prelude.{ℕ, zero, suc, ◌≤◌, ◌<◌, ◌⊎◌, ◌≡◌, refl, Bool, true, false, not, cond, List, [], ◌∷◌, ◌++◌}
-use Rattle.std.proofs.Common.{arith, inl, inr, ⊎_elim, sym, ap, ◌∙◌}
-use Rattle.std.proofs.lemmas.Bool.{not-true, not-false}
+use Rattle.std.specs.Prelude.{ℕ, ◌≤◌, ◌<◌, ◌⊎◌, ◌≡◌, Bool, true, false, cond, List, [], ◌∷◌}
 
 pub record Test : Type 0 where
   pub number : ℕ

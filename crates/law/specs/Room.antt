@@ -1,7 +1,5 @@
 -- ROOM: for each lent buffer what the call needs and what it has, and the test of them all.
-use Rattle.std.specs.Prelude.{ℕ, ◌≤◌, ◌≡◌, refl, Bool, true, ◌&&◌, List, [], ◌∷◌, leb}
-use Rattle.std.proofs.Common.{leb-true, le-leb}
-use Rattle.law.specs.Truth.{both, and_true}
+use Rattle.std.specs.Prelude.{ℕ, ◌≤◌, Bool, ◌&&◌, List, [], ◌∷◌, leb}
 
 abbrev pub Room : Type 0
 Room = List (ℕ × ℕ)

@@ -11,7 +11,6 @@ use Rattle.std.proofs.Math.ListN.{length, get_or, drop, get_or-append}
 use Rattle.std.proofs.lemmas.List.{length-replicate, replicate-append-replicate}
 use Rattle.std.proofs.lemmas.List.Edits.{sets, sets-eq}
 use Rattle.std.proofs.Math.Seq.{length-sets, drop-length, drop-set-lt, length-take-le, get_or-set_other}
-use Rattle.law.specs.Gather.{gather, up_to, table}
 
 module _ {A : Type 0} where
   -- vs stored one by one from place i on. It is `sets`, shut, so that what stands in it is found by matching

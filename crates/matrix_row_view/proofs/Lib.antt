@@ -2,3 +2,4 @@ mod Readings
 pub mod Outcome
 pub mod Finding
 pub mod Meaning
+pub mod Showing

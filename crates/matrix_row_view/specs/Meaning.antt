@@ -17,7 +17,7 @@ use Rattle.matrix_shape.specs.Rows.{at, Pattern, row_end}
 use Rattle.matrix_row.specs.declared.inner.Span.{Span}
 use Rattle.matrix_row.specs.Row.{none, span_of, row_cols}
 use Rattle.matrix_row_view.specs.declared.Spanned.TheVariants.{Slots}
-use Rattle.matrix_row_view.specs.Showing.{In, given, own_starts, own_cols, slots_of, column_of, refusals, rows_room, Ready, ready}
+use Rattle.matrix_row_view.specs.Showing.{In, given, own_starts, own_cols, slots_of, column_of, refusals, rows_room, Ready}
 use Rattle.matrix_row_view.specs.Showing.{span_door, column_door, slot_door}
 
 -- where the row asked for starts and ends, by the row offsets as they stand

@@ -94,10 +94,3 @@ pub record Ready (i : In) : Type 0 where
   pub places : i.n < length i.row_offsets
   pub columns : at i.row_offsets i.n ≤ length i.cols
   pub row : i.row < i.n
-
-pub ready : (i : In) → verdict (refusals i) ≡ 0 → Ready i
-unfolding refusals rows_room
-ready i h =
-    let p = all_pass 1 (refusals i) (omega arith) (in_order i) h in
-    let e = enough_is true (rows_room i.n i.row_offsets i.cols) p.1.0 in
-    record { few = leb-true _ _ p.0; places = omega (arith, e.0); columns = e.1.0; row = ltb-true _ _ p.1.1.0 }

@@ -1,17 +1,8 @@
 -- THE SEARCH BY HALVES, on any columns: of the slots a..b one is left, and it is the answer if it has the column. What is found has the column
 -- (`search_tells`), whatever stands in the others; where the columns rise strictly, the answer is the slot that has the column (`search_finds`).
-use Rattle.std.specs.Prelude.{ℕ, zero, suc, ◌+◌, ◌-◌, ◌/◌, ◌≤◌, ◌<◌, ◌≡◌, cond, ltb, eqb}
-use Rattle.std.proofs.Math.Path.{refl, sym}
-use Rattle.std.proofs.Common.{◌∙◌, arith}
-use Rattle.std.proofs.Math.Logic.{⊎_elim}
-use borrow.Author.Tests.{lt-ltb, le-ltb, eq-eqb, ne_eqb}
-use Rattle.law.specs.Truth.{below_or, same_or}
-use Rattle.law.proofs.Loop.{climbing}
-use Rattle.law.specs.Find.{find, find_first}
+use Rattle.std.specs.Prelude.{ℕ, ◌+◌, ◌-◌, ◌≤◌, ◌<◌, ◌≡◌, cond, ltb, eqb}
 use Rattle.law.specs.Limit.{absent}
-use Rattle.matrix_shape.specs.Index.{Strict}
-use Rattle.matrix_shape.specs.Halving.{half, halved, left, half_in, halved_in, halved_from, halved_one, left_four}
-use Rattle.matrix_shape.specs.Halving.{Within, within_all, within_halved, found, missing, none}
+use Rattle.matrix_shape.specs.Halving.{halved}
 
 -- the one of `size` slots from low on that is left: as many steps as slots are enough
 unfoldable pub kept : (ℕ → ℕ) → ℕ → ℕ → ℕ → ℕ

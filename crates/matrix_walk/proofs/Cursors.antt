@@ -1,5 +1,5 @@
 -- What follows of specs/Cursors.antt: its theorems, apart from the definitions.
-use Rattle.std.specs.Prelude.{ℕ, ◌+◌, ◌-◌, ◌≤◌, ◌<◌, ◌≡◌, refl, Bool, false, ◌&&◌, ◌||◌, leb}
+use Rattle.std.specs.Prelude.{ℕ, ◌+◌, ◌-◌, ◌≤◌, ◌<◌, ◌≡◌, refl, false, ◌&&◌, ◌||◌, leb}
 use Rattle.std.proofs.Common.{sym, le_refl}
 use Rattle.std.proofs.Math.Bool.{true, or-true}
 use Rattle.std.proofs.Math.Logic.{⊎_elim}
@@ -8,9 +8,9 @@ use Rattle.std.proofs.Math.Dec.{ltb, eqb}
 use borrow.Author.Tests.{ltb-true, leb-true, eqb-true, lt-ltb, le-leb, eq-eqb}
 use Rattle.law.proofs.Loop.{from, rising}
 use Rattle.law.specs.Truth.{both, and_true, either, below_or, alike, holds_or, clash}
-use Rattle.law.specs.Every.{every, some}
+use Rattle.law.specs.Every.{every}
 use Rattle.law.proofs.Every.{every_at, every_of, some_at, some_of}
-use Rattle.law.specs.Sum.{sum, sum_none, sum_more, bit}
+use Rattle.law.specs.Sum.{sum_none, sum_more, bit}
 use Rattle.matrix_shape.specs.Formed.{InRow, Stored, WellFormed, slot_ok, home_ok, starts_ok, well_formed, starts_is, formed_is, formed_of}
 use Rattle.matrix_shape.specs.Rows.{row_end, later}
 use Rattle.matrix_walk.specs.Cursors.{cursor, end_ok, has, line_ok, meet_ok, pair_ok, walk_ok}

@@ -2,20 +2,11 @@
 -- block below the diagonal must meet its mirror at the cursor of its column's row, which then goes on by one. Where that is so of all, and every
 -- cursor has come to its row's end, the rows above the diagonal need no test of their own: once the row starts have passed, the walk's answer is the
 -- pattern's.
-use Rattle.std.specs.Prelude.{ℕ, ◌+◌, ◌-◌, ◌≤◌, ◌<◌, ◌≡◌, refl, Bool, false, ◌&&◌, ◌||◌, leb}
-use Rattle.std.proofs.Common.{sym, le_refl}
-use Rattle.std.proofs.Math.Bool.{true, or-true}
-use Rattle.std.proofs.Math.Logic.{⊎_elim}
-use native.Mathlib.Omega.{arith}
+use Rattle.std.specs.Prelude.{ℕ, ◌+◌, Bool, ◌&&◌}
 use Rattle.std.proofs.Math.Dec.{ltb, eqb}
-use borrow.Author.Tests.{ltb-true, leb-true, eqb-true, lt-ltb, le-leb, eq-eqb}
-use Rattle.law.proofs.Loop.{from, rising}
-use Rattle.law.specs.Truth.{both, and_true, either, below_or, alike, holds_or, clash}
 use Rattle.law.specs.Every.{every, some}
-use Rattle.law.proofs.Every.{every_at, every_of, some_at, some_of}
-use Rattle.law.specs.Sum.{sum, sum_none, sum_more, bit}
-use Rattle.matrix_shape.specs.Formed.{InRow, Stored, WellFormed, slot_ok, home_ok, starts_ok, well_formed, starts_is, formed_is, formed_of}
-use Rattle.matrix_shape.specs.Rows.{row_end, later}
+use Rattle.law.specs.Sum.{sum, bit}
+use Rattle.matrix_shape.specs.Formed.{slot_ok, home_ok}
 
 -- one of the slots a..b has the column j
 abbrev pub has : (ℕ → ℕ) → ℕ → ℕ → ℕ → Bool

@@ -1,5 +1,5 @@
 -- What follows of specs/Fits.antt: its theorems, apart from the definitions.
-use Rattle.std.specs.Prelude.{ℕ, ◌+◌, ◌-◌, ◌*◌, ◌%◌, ◌≤◌, ◌<◌, ◌≡◌, refl, Bool, ◌&&◌, ◌||◌, leb, ltb, eqb}
+use Rattle.std.specs.Prelude.{ℕ, ◌+◌, ◌*◌, ◌%◌, ◌≤◌, ◌<◌, ◌≡◌, refl, ◌&&◌, leb, ltb, eqb}
 use Rattle.std.proofs.Math.Bool.{true}
 use Rattle.std.proofs.Math.Logic.{⊎_elim}
 use Rattle.std.proofs.Common.{arith}
@@ -7,7 +7,6 @@ use borrow.Author.Tests.{leb-true, ltb-true, eqb-true, le-leb, lt-ltb, eq-eqb}
 use Rattle.law.specs.Truth.{both, and_true, either, or_right, below_or}
 use Rattle.law.specs.Every.{every}
 use Rattle.law.proofs.Every.{every_at, every_of}
-use Rattle.matrix_shape.specs.Formed.{Stored}
 use Rattle.plan_fits.specs.Fits.{Fits, Inside, PlanRules, back_ok, firsts_ok, fits_ok, grow_ok, inside_ok, plan_rules_ok, row_ok, slot_ok, starts_ok, twins_ok, undo_ok}
 
 -- ---- what each part of the tests says

@@ -1,10 +1,8 @@
 -- What follows of specs/Lists.antt: its theorems, apart from the definitions.
-use Rattle.std.specs.Prelude.{ℕ, ◌+◌, ◌*◌, ◌/◌, ◌≤◌, ◌<◌, ◌≡◌, true, List, length}
-use Rattle.std.proofs.Common.{ap, ⊎_elim, arith}
-use Rattle.law.specs.Limit.{particles}
-use Rattle.law.specs.Truth.{same_or}
+use Rattle.std.specs.Prelude.{ℕ, ◌*◌, ◌≡◌, true, List}
+use Rattle.std.proofs.Common.{arith}
 use Rattle.matrix_shape.specs.Rows.{at}
-use Rattle.plan_fits.specs.Fits.{PlanRules, plan_rules_ok, firsts_ok}
+use Rattle.plan_fits.specs.Fits.{plan_rules_ok, firsts_ok}
 use Rattle.plan_fits.proofs.Fits.{firsts_is, planned_is}
 use Rattle.plan_fits.specs.Lists.{Laid, Lows, Plan, row_low}
 

@@ -2,14 +2,8 @@
 -- `inside_ok`, `fits_ok`); each follows from the other. `PlanRules` is the rules that ask for no pattern. A plan for n particles
 -- is four functions, so that it may stand in lists or anywhere else: o i is the particle at position i, p q the position of
 -- particle q, f r the first column of row r, s r where row r starts. Position i has the rows 2i and 2i + 1.
-use Rattle.std.specs.Prelude.{ℕ, ◌+◌, ◌-◌, ◌*◌, ◌%◌, ◌≤◌, ◌<◌, ◌≡◌, refl, Bool, ◌&&◌, ◌||◌, leb, ltb, eqb}
-use Rattle.std.proofs.Math.Bool.{true}
-use Rattle.std.proofs.Math.Logic.{⊎_elim}
-use Rattle.std.proofs.Common.{arith}
-use borrow.Author.Tests.{leb-true, ltb-true, eqb-true, le-leb, lt-ltb, eq-eqb}
-use Rattle.law.specs.Truth.{both, and_true, either, or_right, below_or}
+use Rattle.std.specs.Prelude.{ℕ, ◌+◌, ◌-◌, ◌*◌, ◌%◌, ◌≤◌, ◌<◌, ◌≡◌, Bool, ◌&&◌, ◌||◌, leb, ltb, eqb}
 use Rattle.law.specs.Every.{every}
-use Rattle.law.proofs.Every.{every_at, every_of}
 use Rattle.matrix_shape.specs.Formed.{Stored}
 
 pub record PlanRules (n : ℕ) (o p f s : ℕ → ℕ) : Type 0 where

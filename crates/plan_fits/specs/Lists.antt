@@ -1,11 +1,11 @@
 -- A PLAN IN LISTS, and what each phase of the test gives the next: no row starts past its diagonal once the
 -- first columns have passed, and each particle has a position once order and inverse have.
-use Rattle.std.specs.Prelude.{ℕ, ◌+◌, ◌*◌, ◌/◌, ◌≤◌, ◌<◌, ◌≡◌, true, List, length}
+use Rattle.std.specs.Prelude.{ℕ, ◌+◌, ◌*◌, ◌/◌, ◌≤◌, ◌<◌, ◌≡◌, List, length}
 use Rattle.std.proofs.Common.{ap, ⊎_elim, arith}
 use Rattle.law.specs.Limit.{particles}
 use Rattle.law.specs.Truth.{same_or}
 use Rattle.matrix_shape.specs.Rows.{at}
-use Rattle.plan_fits.specs.Fits.{PlanRules, plan_rules_ok, firsts_ok}
+use Rattle.plan_fits.specs.Fits.{PlanRules}
 
 -- the lists have the places that a plan for n particles fills
 pub record Laid (n : ℕ) (order inverse first starts : List ℕ) : Type 0 where

@@ -2,7 +2,8 @@ use Prim.Native.Nat.{ℕ}
 use mathlib.Core.Path.{sym, ap, ◌∙◌}
 use Rattle.law.proofs.Promise.{refuses, accepts}
 use Rattle.matrix_row_view.specs.declared.Placed.TheVariants.{Slot}
-use Rattle.matrix_row_view.specs.Showing.{placed, slot_door, ready}
+use Rattle.matrix_row_view.specs.Showing.{placed, slot_door}
+use Rattle.matrix_row_view.proofs.Showing.{ready}
 use Rattle.matrix_row_view.proofs.row_slot.Goals as goal
 
 pub returns-then-no-ne0 : goal.returns-then-no-ne0

@@ -1,6 +1,7 @@
 use mathlib.Core.Path.{sym, ap, ◌∙◌}
 use Rattle.law.proofs.Promise.{refuses, accepts}
-use Rattle.matrix_row_view.specs.Showing.{spanned, span_door, ready}
+use Rattle.matrix_row_view.specs.Showing.{spanned, span_door}
+use Rattle.matrix_row_view.proofs.Showing.{ready}
 use Rattle.matrix_row_view.proofs.row_span.Goals as goal
 
 pub returns-then-no-ne0 : goal.returns-then-no-ne0

@@ -1,4 +1,3 @@
-use borrow.Author.Rules.{rules}
 use Rattle.plane.proofs.inverse.Goals as goal
 
 pub returns : goal.returns
