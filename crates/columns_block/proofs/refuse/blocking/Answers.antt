@@ -1,3 +1,5 @@
+use mathlib.Core.Bool.{not}
+use mathlib.Core.Path.{ap}
 use borrow.Author.Tests.{le-leb, lt-leb, lt-ltb, le-ltb}
 use Rattle.law.proofs.Refusals.{goes_on, stops, ends}
 use Rattle.law.specs.Truth.{refused, passed}
@@ -21,35 +23,35 @@ unfolding refusals
 returns-then-not-room c =
     goes_on _ _ _ _ (le-leb _ _ c.if-n-gt-PARTICLES.false)
     (goes_on _ _ _ _ (le-leb _ _ c.if-pinned-n.false)
-    (stops _ _ _ (refused _ _ c.room.ensures c.if-not-room.true-raw)))
+    (stops _ _ _ (refused _ _ c.room.ensures (ap not c.if-not-room.true))))
 
 pub returns-then-n-particle : goal.returns-then-n-particle
 unfolding refusals
 returns-then-n-particle c =
     goes_on _ _ _ _ (le-leb _ _ c.if-n-gt-PARTICLES.false)
     (goes_on _ _ _ _ (le-leb _ _ c.if-pinned-n.false)
-    (goes_on _ _ _ _ (passed _ _ c.room.ensures c.if-not-room.false-raw)
+    (goes_on _ _ _ _ (passed _ _ c.room.ensures (ap not c.if-not-room.false))
     (stops _ _ _ (le-ltb _ _ c.if-n-particle.true))))
 
 pub table_ok-requires : goal.table_ok-requires
 table_ok-requires c =
-    (c.if-n-gt-PARTICLES.false, c.if-pinned-n.false, has_places _ _ _ _ _ _ (passed _ _ c.room.ensures c.if-not-room.false-raw))
+    (c.if-n-gt-PARTICLES.false, c.if-pinned-n.false, has_places _ _ _ _ _ _ (passed _ _ c.room.ensures (ap not c.if-not-room.false)))
 
 pub returns-then-not-table_ok : goal.returns-then-not-table_ok
 unfolding refusals
 returns-then-not-table_ok c =
     goes_on _ _ _ _ (le-leb _ _ c.if-n-gt-PARTICLES.false)
     (goes_on _ _ _ _ (le-leb _ _ c.if-pinned-n.false)
-    (goes_on _ _ _ _ (passed _ _ c.room.ensures c.if-not-room.false-raw)
+    (goes_on _ _ _ _ (passed _ _ c.room.ensures (ap not c.if-not-room.false))
     (goes_on _ _ _ _ (lt-ltb _ _ c.if-n-particle.false)
-    (stops _ _ _ (refused _ _ c.table_ok.ensures c.if-not-table_ok.true-raw)))))
+    (stops _ _ _ (refused _ _ c.table_ok.ensures (ap not c.if-not-table_ok.true))))))
 
 pub returns : goal.returns
 unfolding refusals
 returns c =
     goes_on _ _ _ _ (le-leb _ _ c.if-n-gt-PARTICLES.false)
     (goes_on _ _ _ _ (le-leb _ _ c.if-pinned-n.false)
-    (goes_on _ _ _ _ (passed _ _ c.room.ensures c.if-not-room.false-raw)
+    (goes_on _ _ _ _ (passed _ _ c.room.ensures (ap not c.if-not-room.false))
     (goes_on _ _ _ _ (lt-ltb _ _ c.if-n-particle.false)
-    (goes_on _ _ _ _ (passed _ _ c.table_ok.ensures c.if-not-table_ok.false-raw)
+    (goes_on _ _ _ _ (passed _ _ c.table_ok.ensures (ap not c.if-not-table_ok.false))
     ends))))

@@ -1,3 +1,5 @@
+use mathlib.Core.Bool.{not}
+use mathlib.Core.Path.{ap}
 use native.Mathlib.Omega.{arith}
 use Rattle.law.specs.Truth.{refused, passed}
 use Rattle.columns_combine.specs.Combining.{sum_is, not_loaded, nothing_left, gained}
@@ -15,9 +17,9 @@ returns-then-add_all c =
 pub returns-then-not-any_free : goal.returns-then-not-any_free
 returns-then-not-any_free c =
     nothing_left _ _ (sum_is _ _ _ _ c.clear.ensures (rw (← c.if-add_all.false) c.add_all.ensures))
-    (refused _ _ c.any_free.ensures c.if-not-any_free.true-raw)
+    (refused _ _ c.any_free.ensures (ap not c.if-not-any_free.true))
 
 pub returns : goal.returns
 returns c =
     gained _ _ _ _ (sum_is _ _ _ _ c.clear.ensures (rw (← c.if-add_all.false) c.add_all.ensures))
-    (passed _ _ c.any_free.ensures c.if-not-any_free.false-raw) c.raw_gain-raw.ensures c.gain_of.ensures
+    (passed _ _ c.any_free.ensures (ap not c.if-not-any_free.false)) c.raw_gain-raw.ensures c.gain_of.ensures

@@ -1,3 +1,5 @@
+use mathlib.Core.Bool.{not}
+use mathlib.Core.Path.{ap}
 use borrow.Author.Tests.{le-leb, lt-leb}
 use Rattle.law.proofs.Refusals.{goes_on, stops, ends}
 use Rattle.law.specs.Truth.{refused, passed}
@@ -21,34 +23,34 @@ unfolding refusals
 returns-then-not-room c =
     goes_on _ _ _ _ (le-leb _ _ c.if-n-gt-PARTICLES.false)
     (goes_on _ _ _ _ (le-leb _ _ c.if-count-gt-ENTRIES.false)
-    (stops _ _ _ (refused _ _ c.room.ensures c.if-not-room.true-raw)))
+    (stops _ _ _ (refused _ _ c.room.ensures (ap not c.if-not-room.true))))
 
 pub returns-then-not-entries_room : goal.returns-then-not-entries_room
 unfolding refusals
 returns-then-not-entries_room c =
     goes_on _ _ _ _ (le-leb _ _ c.if-n-gt-PARTICLES.false)
     (goes_on _ _ _ _ (le-leb _ _ c.if-count-gt-ENTRIES.false)
-    (goes_on _ _ _ _ (passed _ _ c.room.ensures c.if-not-room.false-raw)
-    (stops _ _ _ (refused _ _ c.entries_room.ensures c.if-not-entries_room.true-raw))))
+    (goes_on _ _ _ _ (passed _ _ c.room.ensures (ap not c.if-not-room.false))
+    (stops _ _ _ (refused _ _ c.entries_room.ensures (ap not c.if-not-entries_room.true)))))
 
 pub all_below-requires : goal.all_below-requires
 all_below-requires c =
-    has_names _ _ _ _ _ (passed _ _ c.entries_room.ensures c.if-not-entries_room.false-raw)
+    has_names _ _ _ _ _ (passed _ _ c.entries_room.ensures (ap not c.if-not-entries_room.false))
 
 pub returns-then-not-all_below : goal.returns-then-not-all_below
 unfolding refusals
 returns-then-not-all_below c =
     goes_on _ _ _ _ (le-leb _ _ c.if-n-gt-PARTICLES.false)
     (goes_on _ _ _ _ (le-leb _ _ c.if-count-gt-ENTRIES.false)
-    (goes_on _ _ _ _ (passed _ _ c.room.ensures c.if-not-room.false-raw)
-    (goes_on _ _ _ _ (passed _ _ c.entries_room.ensures c.if-not-entries_room.false-raw)
-    (stops _ _ _ (refused _ _ c.all_below.ensures c.if-not-all_below.true-raw)))))
+    (goes_on _ _ _ _ (passed _ _ c.room.ensures (ap not c.if-not-room.false))
+    (goes_on _ _ _ _ (passed _ _ c.entries_room.ensures (ap not c.if-not-entries_room.false))
+    (stops _ _ _ (refused _ _ c.all_below.ensures (ap not c.if-not-all_below.true))))))
 
 pub table_ok-requires : goal.table_ok-requires
 table_ok-requires c = (
   c.if-n-gt-PARTICLES.false,
-  has_marks _ _ _ _ _ (passed _ _ c.entries_room.ensures c.if-not-entries_room.false-raw),
-  has_places _ _ _ _ _ _ (passed _ _ c.room.ensures c.if-not-room.false-raw),
+  has_marks _ _ _ _ _ (passed _ _ c.entries_room.ensures (ap not c.if-not-entries_room.false)),
+  has_places _ _ _ _ _ _ (passed _ _ c.room.ensures (ap not c.if-not-room.false)),
 )
 
 pub returns-then-not-table_ok : goal.returns-then-not-table_ok
@@ -56,18 +58,18 @@ unfolding refusals
 returns-then-not-table_ok c =
     goes_on _ _ _ _ (le-leb _ _ c.if-n-gt-PARTICLES.false)
     (goes_on _ _ _ _ (le-leb _ _ c.if-count-gt-ENTRIES.false)
-    (goes_on _ _ _ _ (passed _ _ c.room.ensures c.if-not-room.false-raw)
-    (goes_on _ _ _ _ (passed _ _ c.entries_room.ensures c.if-not-entries_room.false-raw)
-    (goes_on _ _ _ _ (passed _ _ c.all_below.ensures c.if-not-all_below.false-raw)
-    (stops _ _ _ (refused _ _ c.table_ok.ensures c.if-not-table_ok.true-raw))))))
+    (goes_on _ _ _ _ (passed _ _ c.room.ensures (ap not c.if-not-room.false))
+    (goes_on _ _ _ _ (passed _ _ c.entries_room.ensures (ap not c.if-not-entries_room.false))
+    (goes_on _ _ _ _ (passed _ _ c.all_below.ensures (ap not c.if-not-all_below.false))
+    (stops _ _ _ (refused _ _ c.table_ok.ensures (ap not c.if-not-table_ok.true)))))))
 
 pub returns : goal.returns
 unfolding refusals
 returns c =
     goes_on _ _ _ _ (le-leb _ _ c.if-n-gt-PARTICLES.false)
     (goes_on _ _ _ _ (le-leb _ _ c.if-count-gt-ENTRIES.false)
-    (goes_on _ _ _ _ (passed _ _ c.room.ensures c.if-not-room.false-raw)
-    (goes_on _ _ _ _ (passed _ _ c.entries_room.ensures c.if-not-entries_room.false-raw)
-    (goes_on _ _ _ _ (passed _ _ c.all_below.ensures c.if-not-all_below.false-raw)
-    (goes_on _ _ _ _ (passed _ _ c.table_ok.ensures c.if-not-table_ok.false-raw)
+    (goes_on _ _ _ _ (passed _ _ c.room.ensures (ap not c.if-not-room.false))
+    (goes_on _ _ _ _ (passed _ _ c.entries_room.ensures (ap not c.if-not-entries_room.false))
+    (goes_on _ _ _ _ (passed _ _ c.all_below.ensures (ap not c.if-not-all_below.false))
+    (goes_on _ _ _ _ (passed _ _ c.table_ok.ensures (ap not c.if-not-table_ok.false))
     ends)))))

@@ -1,6 +1,6 @@
 use mathlib.Core.Path.{◌≡◌, ap}
 use mathlib.Core.Bool.{Bool, true, false, not, ◌&&◌}
-use borrow.Author.Tests.{leb-true, le-leb, lt-leb, lt-ltb, le-ltb, not-true, not-false}
+use borrow.Author.Tests.{leb-true, le-leb, lt-leb, lt-ltb, le-ltb}
 use Rattle.law.proofs.Refusals.{goes_on, stops, ends}
 use Rattle.law.specs.Truth.{both, refused, passed}
 use Rattle.law.specs.Room.{enough}
@@ -28,19 +28,19 @@ unfolding refusals enough table_room
 returns-then-not-n-pinned c =
     goes_on _ _ _ _ (le-leb _ _ c.if-n-gt-PARTICLES.false)
     (goes_on _ _ _ _ (no_more _ _ _ c.is_new.ensures c.if-is_new-loaded.false)
-    (stops _ _ _ (not-true _ c.if-not-n-pinned.true-raw)))
+    (stops _ _ _ c.if-not-n-pinned.true))
 
 pub returns-then-n-particle : goal.returns-then-n-particle
 unfolding refusals enough table_room
 returns-then-n-particle c =
     goes_on _ _ _ _ (le-leb _ _ c.if-n-gt-PARTICLES.false)
     (goes_on _ _ _ _ (no_more _ _ _ c.is_new.ensures c.if-is_new-loaded.false)
-    (goes_on _ _ _ _ (not-false _ c.if-not-n-pinned.false-raw)
+    (goes_on _ _ _ _ c.if-not-n-pinned.false
     (stops _ _ _ (le-ltb _ _ c.if-n-particle.true))))
 
 pub table_ok-requires : goal.table_ok-requires
 table_ok-requires c =
-    let b = both _ _ (not-false _ c.if-not-n-pinned.false-raw) in
+    let b = both _ _ c.if-not-n-pinned.false in
     (c.if-n-gt-PARTICLES.false, leb-true _ _ b.0, leb-true _ _ b.1)
 
 pub returns-then-not-table_ok : goal.returns-then-not-table_ok
@@ -48,15 +48,15 @@ unfolding refusals enough table_room
 returns-then-not-table_ok c =
     goes_on _ _ _ _ (le-leb _ _ c.if-n-gt-PARTICLES.false)
     (goes_on _ _ _ _ (no_more _ _ _ c.is_new.ensures c.if-is_new-loaded.false)
-    (goes_on _ _ _ _ (not-false _ c.if-not-n-pinned.false-raw)
+    (goes_on _ _ _ _ c.if-not-n-pinned.false
     (goes_on _ _ _ _ (lt-ltb _ _ c.if-n-particle.false)
-    (stops _ _ _ (refused _ _ c.table_ok.ensures c.if-not-table_ok.true-raw)))))
+    (stops _ _ _ (refused _ _ c.table_ok.ensures (ap not c.if-not-table_ok.true))))))
 
 pub returns : goal.returns
 unfolding refusals enough table_room
 returns c =
     goes_on _ _ _ _ (le-leb _ _ c.if-n-gt-PARTICLES.false)
     (goes_on _ _ _ _ (no_more _ _ _ c.is_new.ensures c.if-is_new-loaded.false)
-    (goes_on _ _ _ _ (not-false _ c.if-not-n-pinned.false-raw)
+    (goes_on _ _ _ _ c.if-not-n-pinned.false
     (goes_on _ _ _ _ (lt-ltb _ _ c.if-n-particle.false)
-    (goes_on _ _ _ _ (passed _ _ c.table_ok.ensures c.if-not-table_ok.false-raw) ends))))
+    (goes_on _ _ _ _ (passed _ _ c.table_ok.ensures (ap not c.if-not-table_ok.false)) ends))))

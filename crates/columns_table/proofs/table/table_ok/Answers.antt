@@ -1,4 +1,3 @@
-use borrow.Author.Tests.{not-true, not-false}
 use Rattle.columns_table.specs.Pass.{met_none, too_many, has_fault, has_none}
 use Rattle.columns_table.proofs.table.table_ok.Goals as goal
 
@@ -12,8 +11,8 @@ walk-requires c =
     (record { n_le_particles = (p.0, p.1, p.2); loaded_le_columns = (l, l, met_none _ _ _ 16 l) })
 
 pub returns-then-not-walk : goal.returns-then-not-walk
-returns-then-not-walk c = has_fault _ _ _ _ _ _ c.walk.ensures (not-true _ c.if-not-walk.true-raw)
+returns-then-not-walk c = has_fault _ _ _ _ _ _ c.walk.ensures c.if-not-walk.true
 
 pub returns : goal.returns
 returns c =
-    has_none _ _ _ _ _ _ _ c.if-loaded-gt-COLUMNS.false c.walk.ensures (not-false _ c.if-not-walk.false-raw) c.each_once.ensures
+    has_none _ _ _ _ _ _ _ c.if-loaded-gt-COLUMNS.false c.walk.ensures c.if-not-walk.false c.each_once.ensures

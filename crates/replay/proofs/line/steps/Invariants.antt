@@ -5,7 +5,7 @@ use borrow.Author.Rules.{rules}
 use Rattle.replay.proofs.line.steps.Given as goal
 
 abbrev pub invariant-loop-i : goal.invariant-loop-i
-invariant-loop-i l =     (l.i ≤ length l.chunk) × (l.at ≤ length l.line) × (length l.line ≡ length l.initial.line) × (length l.words ≡ length l.initial.words)
+invariant-loop-i l = (l.i ≤ length l.chunk) × (l.at ≤ length l.line) × (length l.line ≡ length l.initial.line) × (length l.words ≡ length l.initial.words)
 
 abbrev pub decreases-loop-i : goal.decreases-loop-i
 decreases-loop-i l = length l.chunk - l.i

@@ -1,3 +1,5 @@
+use mathlib.Core.Bool.{not}
+use mathlib.Core.Path.{ap}
 use native.Mathlib.Omega.{arith}
 use Rattle.law.specs.Truth.{refused, passed}
 use Rattle.step_entries.specs.Entries.{gains, adds_none}
@@ -9,7 +11,7 @@ is_free-requires c =
     (omega (arith, p.entries.names, p.e_lt_count.0), omega (arith, p.entries.inside _ p.e_lt_count.0, p.entries.marks))
 
 pub returns-then-not-is_free : goal.returns-then-not-is_free
-returns-then-not-is_free c = adds_none _ _ _ _ _ _ (refused _ _ c.is_free.ensures c.if-not-is_free.true-raw)
+returns-then-not-is_free c = adds_none _ _ _ _ _ _ (refused _ _ c.is_free.ensures (ap not c.if-not-is_free.true))
 
 pub bounds-particles-e : goal.bounds-particles-e
 bounds-particles-e c =
@@ -28,5 +30,5 @@ vector_at-requires-2 c =
 
 pub returns : goal.returns
 returns c =
-    gains _ _ _ _ _ _ _ _ _ _ (passed _ _ c.is_free.ensures c.if-not-is_free.false-raw) c.wide-p.ensures.same c.vector_at.ensures
+    gains _ _ _ _ _ _ _ _ _ _ (passed _ _ c.is_free.ensures (ap not c.if-not-is_free.false)) c.wide-p.ensures.same c.vector_at.ensures
     c.vector_at-2.ensures c.dot.ensures

@@ -1,3 +1,5 @@
+use mathlib.Core.Bool.{not}
+use mathlib.Core.Path.{ap}
 use Rattle.law.proofs.Refusals.{goes_on, stops, ends}
 use Rattle.law.specs.Truth.{refused, passed}
 use Rattle.step_routes.specs.Dense.{ends_early, by_settings}
@@ -9,9 +11,9 @@ returns-then-no-ne0 c = ends_early _ _ _ _ _ _ _ _ _ _ _ _ c.structure-no.ensure
 pub returns-then-not-settings_ok : goal.returns-then-not-settings_ok
 returns-then-not-settings_ok c =
     by_settings _ _ _ _ _ _ _ _ _ _ _ _ c.structure-no.ensures _ c.if-no-ne0.false
-    (stops _ _ _ (refused _ _ c.settings_ok.ensures c.if-not-settings_ok.true-raw))
+    (stops _ _ _ (refused _ _ c.settings_ok.ensures (ap not c.if-not-settings_ok.true)))
 
 pub returns : goal.returns
 returns c =
     by_settings _ _ _ _ _ _ _ _ _ _ _ _ c.structure-no.ensures _ c.if-no-ne0.false
-    (goes_on _ _ _ _ (passed _ _ c.settings_ok.ensures c.if-not-settings_ok.false-raw) ends)
+    (goes_on _ _ _ _ (passed _ _ c.settings_ok.ensures (ap not c.if-not-settings_ok.false)) ends)

@@ -1,3 +1,5 @@
+use mathlib.Core.Bool.{not}
+use mathlib.Core.Path.{ap}
 use borrow.Author.Tests.{le-leb, lt-leb}
 use Rattle.law.proofs.Refusals.{goes_on, stops}
 use Rattle.law.specs.Truth.{refused, passed}
@@ -14,14 +16,14 @@ pub returns-then-not-room : goal.returns-then-not-room
 unfolding refusals
 returns-then-not-room c =
     goes_on _ _ _ _ (le-leb _ _ c.if-n-gt-PARTICLES.false)
-    (stops _ _ _ (refused _ _ c.room.ensures c.if-not-room.true-raw))
+    (stops _ _ _ (refused _ _ c.room.ensures (ap not c.if-not-room.true)))
 
 pub later-requires : goal.later-requires
-later-requires c = roomy _ _ _ _ _ _ _ _ _ _ _ _ _ _ _ _ _ _ _ c.if-n-gt-PARTICLES.false (passed _ _ c.room.ensures c.if-not-room.false-raw)
+later-requires c = roomy _ _ _ _ _ _ _ _ _ _ _ _ _ _ _ _ _ _ _ c.if-n-gt-PARTICLES.false (passed _ _ c.room.ensures (ap not c.if-not-room.false))
 
 pub returns : goal.returns
 unfolding refusals
 returns c =
     goes_on _ _ _ _ (le-leb _ _ c.if-n-gt-PARTICLES.false)
-    (goes_on _ _ _ _ (passed _ _ c.room.ensures c.if-not-room.false-raw)
+    (goes_on _ _ _ _ (passed _ _ c.room.ensures (ap not c.if-not-room.false))
     c.later.ensures)
