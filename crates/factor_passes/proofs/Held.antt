@@ -8,7 +8,7 @@ use Rattle.law.proofs.Loop.{over_shift}
 use Rattle.plane.specs.Plane.{◌⊖◌, ◌⊘◌, zero32}
 use Rattle.flat_runs.specs.Run.{run_step, dot_run, take_step, take_run}
 use Rattle.matrix_shape.specs.Rows.{at}
-use Rattle.plan_fits.specs.Cells.{Drawn, drawn_of, held, corner, look}
+use Rattle.plan_fits.specs.Cells.{drawn_of, held, corner, look}
 use Rattle.plan_fits.specs.Lists.{Plan}
 use Rattle.factor_passes.specs.Passes.{sum_step, row_sum, forward_by, taken_step, taken_of, back_step}
 use Rattle.factor_passes.specs.Held.{Held, Row}

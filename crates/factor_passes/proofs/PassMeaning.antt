@@ -1,6 +1,6 @@
 -- What follows of specs/PassMeaning.antt: its theorems, apart from the definitions.
 use Prim.Native.Nat.{ℕ, ◌+◌, ◌-◌, ◌≤◌, ◌<◌}
-use Rattle.std.specs.Prelude.{◌≡◌, cond, leb}
+use Rattle.std.specs.Prelude.{◌≡◌}
 use Rattle.std.proofs.Math.Path.{refl, sym, ap}
 use Rattle.std.proofs.Common.{◌∙◌, le-leb}
 use mathlib.Core.List.{List}
@@ -119,20 +119,20 @@ module _ (f : ℕ → ℕ) (l : ℕ → ℕ → Float) where
         (λ j t p q e. back_past (m - (j + 1)) (m - (k + 1)) t (omega arith) ∙ e) refl
 
     left_so_far : (i : ℕ) → i < m → (k : ℕ) → k ≤ m - (i + 1) → get_or (over turn 0 k y) i nan ≡ over
-        (λ k. less_of (m - (k + 1)) i (get_or (over turn 0 m y) (m - (k + 1)) nan)) 0 k (get_or y i nan)
+        (λ k. (less_of f l) (m - (k + 1)) i (get_or (over turn 0 m y) (m - (k + 1)) nan)) 0 k (get_or y i nan)
     unfolding turn
     left_so_far i h =
-        let step : ℕ → Float → Float = λ k. less_of (m - (k + 1)) i (get_or (over turn 0 m y) (m - (k + 1)) nan) in
+        let step : ℕ → Float → Float = λ k. (less_of f l) (m - (k + 1)) i (get_or (over turn 0 m y) (m - (k + 1)) nan) in
         λ k. from (λ k. k ≤ m - (i + 1) → get_or (over turn 0 k y) i nan ≡ over step 0 k (get_or y i nan)) 0
         (λ _. ap (λ (t : List Float). get_or t i nan) (sym (over_none turn 0 y)) ∙ over_none step 0 (get_or y i nan))
         (λ k q ih g.
         ap (λ (t : List Float). get_or t i nan) (sym (over_more turn 0 k y (omega arith)))
         ∙ back_less (m - (k + 1)) i (over turn 0 k y) (omega arith) (omega (arith, turns_long k))
-        ∙ ap (λ (x : Float). less_of (m - (k + 1)) i x (get_or (over turn 0 k y) i nan)) (sym (final k (omega arith)))
+        ∙ ap (λ (x : Float). (less_of f l) (m - (k + 1)) i x (get_or (over turn 0 k y) i nan)) (sym (final k (omega arith)))
         ∙ ap (step k) (ih (omega arith)) ∙ over_more step 0 k (get_or y i nan) (omega arith))
         k (omega arith)
 
-    pub backward_is : (i : ℕ) → i < m → get_or (backward_of f l m y) i nan ≡ owed m (backward_of f l m y) i (get_or y i nan) ⊘ l i i
+    pub backward_is : (i : ℕ) → i < m → get_or (backward_of f l m y) i nan ≡ (owed f l) m (backward_of f l m y) i (get_or y i nan) ⊘ l i i
     unfolding backward_of owed turn
     backward_is i h =
         let k = m - (i + 1) in

@@ -1,16 +1,7 @@
 -- A FACTOR IN A LIST THAT HOLDS IT: what each row needs, and that its entries lie side by side, so that a run of the list is a run of the row.
-use Rattle.std.specs.Prelude.{ℕ, ◌+◌, ◌-◌, ◌*◌, ◌≤◌, ◌<◌, ◌≡◌, List, length, get_or, set, Float}
-use Rattle.std.proofs.Common.{◌∙◌}
-use native.Mathlib.Omega.{arith}
-use Rattle.std.specs.Float.{nan}
-use borrow.Author.Tests.{lt-ltb, le-ltb}
-use Rattle.law.proofs.Loop.{over_shift}
-use Rattle.plane.specs.Plane.{◌⊖◌, ◌⊘◌, zero32}
-use Rattle.flat_runs.specs.Run.{run_step, dot_run, take_step, take_run}
+use Rattle.std.specs.Prelude.{ℕ, ◌+◌, ◌-◌, ◌≤◌, ◌<◌, List, length, Float}
 use Rattle.matrix_shape.specs.Rows.{at}
-use Rattle.plan_fits.specs.Cells.{Drawn, drawn_of, held, corner, look}
-use Rattle.plan_fits.specs.Lists.{Plan}
-use Rattle.factor_passes.specs.Passes.{sum_step, row_sum, forward_by, taken_step, taken_of, back_step}
+use Rattle.plan_fits.specs.Cells.{Drawn}
 
 -- m rows
 pub record Held (m : ℕ) (first starts : List ℕ) (values : List Float) : Type 0 where

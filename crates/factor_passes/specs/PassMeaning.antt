@@ -1,21 +1,12 @@
 -- WHAT THE PASSES' NUMBERS ARE, entry by entry: y(i) = (b(i) − Σ L(i,k)·y(k)) / L(i,i), then x(i) = (y(i)
 -- less L(j,i)·x(j) for each row j below that has the column i, the last row first) / L(i,i).
-use Prim.Native.Nat.{ℕ, ◌+◌, ◌-◌, ◌≤◌, ◌<◌}
-use Rattle.std.specs.Prelude.{◌≡◌, cond, leb}
-use Rattle.std.proofs.Math.Path.{refl, sym, ap}
-use Rattle.std.proofs.Common.{◌∙◌, le-leb}
+use Prim.Native.Nat.{ℕ, ◌+◌, ◌-◌}
+use Rattle.std.specs.Prelude.{cond, leb}
 use mathlib.Core.List.{List}
-use Rattle.std.proofs.Math.Logic.{⊎_elim}
-use native.Mathlib.Omega.{arith}
-use Rattle.std.proofs.lemmas.Bool.{lt-leb}
-use Rattle.std.proofs.Math.ListN.{length, get_or, length-set}
-use Rattle.std.proofs.Math.Seq.{get_or-set_same, get_or-set_other}
+use Rattle.std.proofs.Math.ListN.{get_or}
 use Rattle.std.specs.Float.Ieee.{Float, nan}
 use Rattle.law.specs.Loop.{over}
-use Rattle.law.proofs.Loop.{over_none, over_more, over_join, over_keeps, over_same, from}
-use Rattle.law.specs.Truth.{below_or}
-use Rattle.plane.specs.Plane.{◌⊖◌, ◌⊗◌, ◌⊘◌}
-use Rattle.factor_passes.specs.Passes.{sum_step, row_sum, forward_by, forward_step, forward_of, taken_step, taken_of, back_step, backward_of}
+use Rattle.plane.specs.Plane.{◌⊖◌, ◌⊗◌}
 
 module _ (f : ℕ → ℕ) (l : ℕ → ℕ → Float) where
   -- entry i less row j's part, where row j has the column i

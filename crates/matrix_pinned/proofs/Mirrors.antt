@@ -1,6 +1,6 @@
 -- What follows of specs/Mirrors.antt: its theorems, apart from the definitions.
 use Prim.Native.Nat.{ℕ, zero, suc, ◌+◌, ◌*◌, ◌≤◌, ◌<◌}
-use Rattle.std.specs.Prelude.{◌≡◌, Bool, true, false, cond, List, leb, ltb, eqb, get_or, drop, Float}
+use Rattle.std.specs.Prelude.{◌≡◌, Bool, true, false, cond, List, leb, ltb, eqb, get_or, Float}
 use Rattle.std.proofs.Math.Path.{refl}
 use Rattle.std.proofs.Common.{ap, sym, ◌∙◌, add-zero, leb-true, ltb-true, eqb-true, le-leb, lt-ltb, eq-eqb, ne_eqb}
 use Rattle.std.proofs.Math.Logic.{⊎_elim}
@@ -17,9 +17,9 @@ use Rattle.law.specs.Mix.{mix, Holds}
 use Rattle.law.proofs.Mix.{part_new, part_else, part_kept, mix_of}
 use Rattle.plane.specs.Plane.{Block}
 use Rattle.plane.specs.Lent.{flat, block_at, with_block}
-use Rattle.matrix_shape.specs.Formed.{InRow, Stored}
+use Rattle.matrix_shape.specs.Formed.{InRow}
 use Rattle.matrix_shape.specs.Rows.{at, Pattern, row_end, row_of, one_slot}
-use Rattle.matrix_shape.specs.Index.{index_of, Slots, Line, line_of, index_is}
+use Rattle.matrix_shape.specs.Index.{index_of, Slots, line_of, index_is}
 use Rattle.matrix_values.specs.Blocks.{zero_block, identity}
 use Rattle.matrix_pinned.specs.Dirichlet.{in_row, pinned_at, pinned}
 use Rattle.matrix_pinned.specs.Mirrors.{Cross, Crossed, Facing, crossed, mirror_of, slot}

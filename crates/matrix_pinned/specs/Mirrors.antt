@@ -1,28 +1,15 @@
 -- HOW A ROW IS PINNED: its slots and their mirrors are set to zero one after the other, then its
 -- diagonal to the identity; and that this leaves the blocks as Dirichlet.antt has them.
-use Prim.Native.Nat.{ℕ, zero, suc, ◌+◌, ◌*◌, ◌≤◌, ◌<◌}
-use Rattle.std.specs.Prelude.{◌≡◌, Bool, true, false, cond, List, leb, ltb, eqb, get_or, drop, Float}
-use Rattle.std.proofs.Math.Path.{refl}
-use Rattle.std.proofs.Common.{ap, sym, ◌∙◌, add-zero, leb-true, ltb-true, eqb-true, le-leb, lt-ltb, eq-eqb, ne_eqb}
-use Rattle.std.proofs.Math.Logic.{⊎_elim}
-use native.Mathlib.Omega.{arith}
+use Prim.Native.Nat.{ℕ, ◌+◌, ◌*◌, ◌≤◌, ◌<◌}
+use Rattle.std.specs.Prelude.{◌≡◌, List, get_or, drop, Float}
 use Rattle.std.proofs.Math.ListN.{length}
 use Rattle.std.specs.Float.Ieee.{nan}
-use Rattle.std.proofs.lemmas.Bool.{eqb-false}
-use Rattle.law.proofs.Loop.{climbing}
-use Rattle.law.specs.Limit.{absent}
-use Rattle.law.specs.Find.{find, find_first}
-use Rattle.law.specs.Truth.{both, and_true, below_or}
-use Rattle.law.specs.Store.{drop_written, written_long}
-use Rattle.law.specs.Mix.{mix, Holds}
-use Rattle.law.proofs.Mix.{part_new, part_else, part_kept, mix_of}
-use Rattle.plane.specs.Plane.{Block}
-use Rattle.plane.specs.Lent.{flat, block_at, with_block}
+use Rattle.law.specs.Mix.{Holds}
+use Rattle.plane.specs.Lent.{flat, with_block}
 use Rattle.matrix_shape.specs.Formed.{InRow, Stored}
-use Rattle.matrix_shape.specs.Rows.{at, Pattern, row_end, row_of, one_slot}
-use Rattle.matrix_shape.specs.Index.{index_of, Slots, Line, line_of, index_is}
-use Rattle.matrix_values.specs.Blocks.{zero_block, identity}
-use Rattle.matrix_pinned.specs.Dirichlet.{in_row, pinned_at, pinned}
+use Rattle.matrix_shape.specs.Rows.{at}
+use Rattle.matrix_shape.specs.Index.{index_of, Line}
+use Rattle.matrix_values.specs.Blocks.{zero_block}
 
 -- the slot of the row `row` in the row that slot k's column names
 abbrev pub mirror_of : List ℕ → List ℕ → ℕ → ℕ → ℕ
