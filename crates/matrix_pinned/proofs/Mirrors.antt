@@ -32,7 +32,6 @@ unfolding crossed
 crossed_is starts cols row k l q t u e f g = rw (g, f, e)
 
 module _ (starts cols diagonal : List ℕ) (c row : ℕ) (f : Facing starts cols diagonal c row) where
-
   -- the columns rise, so the slot is the first of those from a to b, if it is one of them
   only : (a b : ℕ) → at starts c ≤ a → b ≤ at starts (c + 1) → a ≤ (slot starts cols diagonal c row f) → (slot starts cols diagonal c row f) < b → find (λ k. eqb (at cols k) row) a b absent ≡ (slot starts cols diagonal c row f)
   only a b g h u v =
