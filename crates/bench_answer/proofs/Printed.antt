@@ -1,4 +1,4 @@
--- What follows of specs/Printed.antt: its theorems, apart from the definitions.
+-- FROM A CALL'S ANSWER TO WHAT IS PRINTED, in a room for any text's lines.
 use Prim.Native.Nat.{ℕ, zero, suc, ◌≤◌, ◌<◌}
 use Rattle.std.proofs.Math.Path.{◌≡◌, sym, ap}
 use Rattle.std.specs.Prelude.{refl, Bool, true, false, List, ◌++◌, leb}

@@ -1,22 +1,16 @@
 -- What follows of specs/FromPairs.antt: its theorems, apart from the definitions.
-use Rattle.std.specs.Prelude.{ℕ, ◌*◌, ◌≤◌, ◌≡◌, true, List, [], ◌∷◌, length, leb, Float}
+use Rattle.std.specs.Prelude.{◌≡◌, true, List, Float}
 use Rattle.std.proofs.Common.{ap₂, arith}
-use Rattle.law.specs.Every.{every}
-use Rattle.law.specs.Limit.{particles, pairs as pairLimit}
 use Rattle.law.specs.Mix.{mix}
-use Rattle.law.specs.Number.{too_many_particles, too_many_entries, short_buffer, out_of_range}
-use Rattle.law.specs.Room.{Room, enough}
 use Rattle.law.proofs.Room.{enough_is}
-use Rattle.law.specs.Refusal.{Test, unless, Rising, verdict}
+use Rattle.law.specs.Refusal.{verdict}
 use Rattle.law.proofs.Refusals.{all_pass}
-use Rattle.law.specs.Promise.{Door}
 use Rattle.plane.specs.Lent.{flat}
-use Rattle.matrix_pairs.specs.Pairs.{pair_ok_at}
 use Rattle.matrix_build.specs.Build.{room_of}
 use Rattle.matrix_values.specs.Blocks.{zero_block}
 use Rattle.matrix_building.specs.Building as building
 use Rattle.matrix_building.proofs.Building as building_lemmas
-use Rattle.matrix_building.specs.FromPairs.{In, Out, Ready, in_order, left, refusals, values_room, work}
+use Rattle.matrix_building.specs.FromPairs.{In, Ready, in_order, left, refusals, values_room, work}
 
 pub ready : (i : In) → verdict (refusals i) ≡ 0 → Ready i
 unfolding refusals values_room

@@ -1,17 +1,15 @@
 -- THE DOOR `pattern_from_pairs`: the pattern of given pairs, without block values.
 use Rattle.std.specs.Prelude.{ℕ, ◌+◌, ◌*◌, ◌≤◌, ◌≡◌, true, List, [], ◌∷◌, ◌++◌, length, drop, leb}
-use Rattle.std.proofs.Common.{ap, arith, leb-true}
+use Rattle.std.proofs.Common.{arith}
 use Rattle.law.specs.Every.{every}
 use Rattle.law.specs.Limit.{particles, pairs as pairLimit}
 use Rattle.law.specs.Number.{too_many_particles, too_many_entries, short_buffer, out_of_range}
 use Rattle.law.specs.Room.{Room, enough}
-use Rattle.law.proofs.Room.{enough_is}
-use Rattle.law.specs.Refusal.{Test, unless, Rising, verdict}
-use Rattle.law.proofs.Refusals.{all_pass}
+use Rattle.law.specs.Refusal.{Test, unless, Rising}
 use Rattle.law.specs.Promise.{Door}
 use Rattle.law.specs.Said.{Said}
 use Rattle.matrix_pairs.specs.Pairs.{pair_ok_at}
-use Rattle.matrix_build.specs.Build.{room_of, work_of, Made, made, built_of}
+use Rattle.matrix_build.specs.Build.{room_of, work_of, built_of}
 use Rattle.matrix_building.specs.declared.Built.{Built}
 use Rattle.matrix_building.specs.declared.Built.TheVariants.{Refused, Done}
 use Rattle.matrix_building.specs.Said.{built_said}

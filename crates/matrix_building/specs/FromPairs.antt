@@ -1,14 +1,12 @@
 -- THE DOOR `from_pairs`: the pattern of given pairs, with block values that start zero.
-use Rattle.std.specs.Prelude.{ℕ, ◌*◌, ◌≤◌, ◌≡◌, true, List, [], ◌∷◌, length, leb, Float}
-use Rattle.std.proofs.Common.{ap₂, arith}
+use Rattle.std.specs.Prelude.{ℕ, ◌*◌, ◌≤◌, true, List, [], ◌∷◌, length, leb, Float}
+use Rattle.std.proofs.Common.{arith}
 use Rattle.law.specs.Every.{every}
 use Rattle.law.specs.Limit.{particles, pairs as pairLimit}
 use Rattle.law.specs.Mix.{mix}
 use Rattle.law.specs.Number.{too_many_particles, too_many_entries, short_buffer, out_of_range}
 use Rattle.law.specs.Room.{Room, enough}
-use Rattle.law.proofs.Room.{enough_is}
-use Rattle.law.specs.Refusal.{Test, unless, Rising, verdict}
-use Rattle.law.proofs.Refusals.{all_pass}
+use Rattle.law.specs.Refusal.{Test, unless, Rising}
 use Rattle.law.specs.Promise.{Door}
 use Rattle.plane.specs.Lent.{flat}
 use Rattle.matrix_pairs.specs.Pairs.{pair_ok_at}

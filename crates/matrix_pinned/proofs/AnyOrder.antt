@@ -1,4 +1,5 @@
--- What follows of specs/AnyOrder.antt: its theorems, apart from the definitions.
+-- THE MARKED ROWS' BLOCKS: pinning them leaves what `Pins` says (`marked_pins`), in whatever order they are taken (`any_order`), and nothing else
+-- is so (`pins_only`).
 use Rattle.std.specs.Prelude.{ℕ, ◌+◌, ◌*◌, ◌≤◌, ◌<◌, ◌≡◌, refl, Bool, true, false, cond, List, ◌⊎◌, leb, ltb, eqb, length, get_or, drop, Float}
 use Rattle.std.proofs.Common.{ap, sym, ◌∙◌, inl, inr, arith, add-zero, leb-true, ltb-true, le-leb, lt-ltb, eq-eqb, ne_eqb}
 use Rattle.std.proofs.Math.Logic.{⊎_elim}

@@ -1,4 +1,3 @@
 pub mod Dirichlet
 pub mod Mirrors
 pub mod Marked
-pub mod AnyOrder

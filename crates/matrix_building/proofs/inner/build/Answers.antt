@@ -1,6 +1,5 @@
 use mathlib.Core.Path.{sym}
 use lib.Seq.{length-take-le}
-use Rattle.matrix_building.specs.Building as building
 use Rattle.matrix_building.proofs.Building as building_lemmas
 use Rattle.matrix_building.proofs.inner.build.Goals as goal
 

@@ -1,4 +1,3 @@
-use Rattle.matrix_building.specs.FromPairs as frompairs
 use Rattle.matrix_building.proofs.FromPairs as frompairs_lemmas
 use Rattle.matrix_building.proofs.inner.build_with_values.Goals as goal
 

@@ -1,2 +1,0 @@
--- THE MARKED ROWS' BLOCKS: pinning them leaves what `Pins` says (`marked_pins`), in whatever order they are taken (`any_order`), and nothing else
--- is so (`pins_only`).
