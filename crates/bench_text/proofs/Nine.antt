@@ -1,14 +1,13 @@
 -- What follows of specs/Nine.antt: its theorems, apart from the definitions.
 use Prim.Native.Nat.{ℕ, zero, suc, ◌<◌}
-use Rattle.std.specs.Prelude.{◌≡◌, Bool, List, [], ◌∷◌, ◌⊎◌, leb}
+use Rattle.std.specs.Prelude.{◌≡◌, Bool, List, ◌⊎◌}
 use Rattle.std.proofs.Math.Path.{refl}
 use Rattle.std.proofs.Math.Bool.{true, false, cond}
 use Rattle.std.proofs.Math.Logic.{inl, inr}
 use native.Mathlib.Omega.{arith}
-use Rattle.law.specs.Limit.{particles, pairs}
-use Rattle.law.specs.Number.{too_many_particles, too_many_entries, bad_text}
+use Rattle.law.specs.Number.{bad_text}
 use Rattle.law.specs.Promise.{Door, by, outcome, Promise}
-use Rattle.law.specs.Refusal.{Test, unless, verdict, Under}
+use Rattle.law.specs.Refusal.{Test, verdict, Under}
 use Rattle.law.proofs.Refusals.{verdict_under}
 use Rattle.bench_text.specs.Text.{described}
 use Rattle.bench_text.specs.Nine.{PromiseBy, number_by, outcome_by}

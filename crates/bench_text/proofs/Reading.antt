@@ -1,19 +1,15 @@
 -- What follows of specs/Reading.antt: its theorems, apart from the definitions.
-use Rattle.std.specs.Prelude.{ℕ, zero, suc, ◌*◌, ◌≤◌, ◌<◌, ◌≡◌, refl, true, List, [], ◌∷◌, ◌++◌, length, get_or, take, drop, leb}
+use Rattle.std.specs.Prelude.{ℕ, zero, suc, ◌*◌, ◌<◌, ◌≡◌, refl, true, List, [], ◌∷◌, ◌++◌, length, get_or, drop, leb}
 use Rattle.std.proofs.Common.{ap, arith, take_at, leb-true, eqb-true}
 use Rattle.law.specs.All.{all}
-use Rattle.law.specs.Limit.{particles, pairs, bytes as byteLimit}
-use Rattle.law.specs.Number.{short_buffer}
-use Rattle.law.specs.Refusal.{Test, unless, Rising}
+use Rattle.law.specs.Limit.{bytes as byteLimit}
 use Rattle.law.proofs.Refusals.{all_pass}
-use Rattle.law.specs.Promise.{Door, by}
-use Rattle.law.specs.Said.{Said, refused, carries}
+use Rattle.law.specs.Promise.{by}
 use Rattle.law.specs.Truth.{both}
 use Rattle.bench_scan.specs.Numbers.{allowed, numbers, small}
 use Rattle.bench_text.specs.Text.{counted, described, particle_count, pair_count, pair_numbers}
-use Rattle.bench_text.specs.Nine.{limits, number_by, outcome_by, PromiseBy}
+use Rattle.bench_text.specs.Nine.{limits, outcome_by}
 use Rattle.bench_text.proofs.Nine.{no_nine}
-use Rattle.bench_text.specs.declared.inner.Input.{Input}
 use Rattle.bench_text.specs.declared.inner.Input.TheVariants.{Refused, Text}
 use Rattle.bench_text.specs.Reading.{Accepted, In, Out, Reads, given, in_order, left, number_of, refusals, refuse, tests, work}
 

@@ -1,10 +1,6 @@
 -- A PROGRAM'S BUFFER has room for more bytes than a text may have. So what was read into it decides, whatever else stands on the input.
-use Rattle.std.specs.Prelude.{ℕ, ◌≤◌, ◌<◌, ◌≡◌, false, List, length, take}
-use Rattle.std.proofs.Common.{sym, ap, ◌∙◌, ⊎_elim, arith, length-take-le, take_all}
-use Rattle.std.proofs.lemmas.Bool.{lt-leb}
+use Rattle.std.specs.Prelude.{ℕ, ◌≤◌, ◌<◌, ◌≡◌, List, length, take}
 use Rattle.law.specs.Limit.{bytes as byteLimit}
-use Rattle.law.specs.Truth.{below_or}
-use Rattle.bench_text.specs.Text.{described}
 
 -- n bytes of it were read
 pub record Buffered (n : ℕ) (buffer : List ℕ) : Type 0 where

@@ -1,15 +1,11 @@
 -- 9 PRECEDES ALL: whoever is handed a text asks his tests only where it is as described. So 9 stands outside the refusal lists, whose numbers never fall.
-use Prim.Native.Nat.{ℕ, zero, suc, ◌<◌}
-use Rattle.std.specs.Prelude.{◌≡◌, Bool, List, [], ◌∷◌, ◌⊎◌, leb}
-use Rattle.std.proofs.Math.Path.{refl}
-use Rattle.std.proofs.Math.Bool.{true, false, cond}
-use Rattle.std.proofs.Math.Logic.{inl, inr}
-use native.Mathlib.Omega.{arith}
+use Prim.Native.Nat.{ℕ}
+use Rattle.std.specs.Prelude.{◌≡◌, List, [], ◌∷◌, leb}
+use Rattle.std.proofs.Math.Bool.{cond}
 use Rattle.law.specs.Limit.{particles, pairs}
 use Rattle.law.specs.Number.{too_many_particles, too_many_entries, bad_text}
-use Rattle.law.specs.Promise.{Door, by, outcome, Promise}
-use Rattle.law.specs.Refusal.{Test, unless, verdict, Under}
-use Rattle.law.proofs.Refusals.{verdict_under}
+use Rattle.law.specs.Promise.{Door, by}
+use Rattle.law.specs.Refusal.{Test, unless, verdict}
 use Rattle.bench_text.specs.Text.{described}
 
 -- the number that a text is refused by, 0 for none

@@ -1,17 +1,13 @@
 -- READING A TEXT: what is answered, and what is left in the lent room.
-use Rattle.std.specs.Prelude.{ℕ, zero, suc, ◌*◌, ◌≤◌, ◌<◌, ◌≡◌, refl, true, List, [], ◌∷◌, ◌++◌, length, get_or, take, drop, leb}
-use Rattle.std.proofs.Common.{ap, arith, take_at, leb-true, eqb-true}
-use Rattle.law.specs.All.{all}
-use Rattle.law.specs.Limit.{particles, pairs, bytes as byteLimit}
+use Rattle.std.specs.Prelude.{ℕ, ◌*◌, ◌≤◌, ◌≡◌, true, List, [], ◌∷◌, ◌++◌, length, take, drop, leb}
+use Rattle.std.proofs.Common.{arith}
+use Rattle.law.specs.Limit.{particles, pairs}
 use Rattle.law.specs.Number.{short_buffer}
 use Rattle.law.specs.Refusal.{Test, unless, Rising}
-use Rattle.law.proofs.Refusals.{all_pass}
-use Rattle.law.specs.Promise.{Door, by}
+use Rattle.law.specs.Promise.{Door}
 use Rattle.law.specs.Said.{Said, refused, carries}
-use Rattle.law.specs.Truth.{both}
-use Rattle.bench_scan.specs.Numbers.{allowed, numbers, small}
-use Rattle.bench_text.specs.Text.{counted, described, particle_count, pair_count, pair_numbers}
-use Rattle.bench_text.specs.Nine.{limits, number_by, outcome_by, PromiseBy}
+use Rattle.bench_text.specs.Text.{described, particle_count, pair_count, pair_numbers}
+use Rattle.bench_text.specs.Nine.{limits, number_by, PromiseBy}
 use Rattle.bench_text.specs.declared.inner.Input.{Input}
 use Rattle.bench_text.specs.declared.inner.Input.TheVariants.{Refused, Text}
 

@@ -1,29 +1,25 @@
 -- What follows of specs/Planning.antt: its theorems, apart from the definitions.
-use Rattle.std.specs.Prelude.{ℕ, ◌+◌, ◌*◌, ◌≤◌, ◌<◌, ◌≡◌, Bool, cond, eqb, length, take, drop, replicate}
+use Rattle.std.specs.Prelude.{ℕ, ◌+◌, ◌*◌, ◌<◌, ◌≡◌, Bool, cond, length, take, drop}
 use Rattle.std.proofs.Math.Path.{refl, ap}
 use Rattle.std.proofs.Common.{sym, ◌∙◌, take-append-drop, length-take-le, leb-true, ne_eqb}
 use Rattle.std.proofs.Math.Bool.{true, false}
 use mathlib.Core.List.{List, [], ◌∷◌, ◌++◌}
 use native.Mathlib.Omega.{arith}
 use Rattle.std.proofs.Math.Dec.{leb}
-use Rattle.law.specs.Limit.{particles, envelope}
-use Rattle.law.specs.Number.{too_many_particles, short_buffer, bad_pattern, long_envelope}
-use Rattle.law.specs.Room as room
+use Rattle.law.specs.Limit.{envelope}
+use Rattle.law.specs.Number.{long_envelope}
 use Rattle.law.proofs.Room as room_lemmas
-use Rattle.law.specs.Refusal.{Test, unless, Rising, verdict}
+use Rattle.law.specs.Refusal.{unless, verdict}
 use Rattle.law.proofs.Refusals.{all_pass, stops, goes_on, ends, rising_front, decides_early, decides_late, verdict_under}
-use Rattle.law.specs.Promise.{Door, Promise}
+use Rattle.law.specs.Promise.{Promise}
 use Rattle.law.proofs.Promise.{refuses, accepts}
-use Rattle.law.specs.Said.{Said}
-use Rattle.matrix_shape.specs.Rows.{at, Pattern}
-use Rattle.matrix_shape.specs.Given.{pattern_room, formed, pattern}
+use Rattle.matrix_shape.specs.Given.{pattern}
 use Rattle.order_definition.specs.Tight.{tight_of}
 use Rattle.plan_layout.specs.EachOnce.{order_lists}
-use Rattle.plan_make.specs.Plan.{Plan, four, plan_of, envelope_length}
+use Rattle.plan_make.specs.Plan.{Plan, four, plan_of}
 use Rattle.plan_make.specs.Parts.{Work, five, Ground, Room, Desk, Made, made, zeros, settled, made_of}
 use Rattle.plan_doors.specs.declared.Planned.{Planned}
 use Rattle.plan_doors.specs.declared.Planned.TheVariants.{Refused, Done}
-use Rattle.plan_doors.specs.Said.{planned_said}
 use Rattle.plan_doors.specs.Planning.{In, Ready, answered, cleared, door, early, in_order, laid_over, left, length_for, own_cols, own_starts, plan_part, planning_room, refusals, refuse, whole_of, work, work_over, work_part}
 
 pub ready : (i : In) → verdict (early i) ≡ 0 → Ready i
