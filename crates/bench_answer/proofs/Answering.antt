@@ -1,5 +1,5 @@
 -- What follows of specs/Answering.antt: its theorems, apart from the definitions.
-use Rattle.std.specs.Prelude.{ℕ, ◌*◌, ◌≤◌, ◌<◌, List, [], ◌∷◌, ◌++◌, leb, length, drop}
+use Rattle.std.specs.Prelude.{ℕ, ◌*◌, ◌≤◌, ◌<◌, List, ◌++◌, length}
 use Rattle.std.proofs.Math.Path.{◌≡◌, refl, ap}
 use Rattle.std.proofs.Common.{sym, ◌∙◌, arith, length-take-le}
 use Rattle.std.proofs.Math.Logic.{⊎_elim}
@@ -7,13 +7,12 @@ use Rattle.std.proofs.Math.ListN.{take}
 use borrow.Author.Tests.{le-leb, lt-leb}
 use Rattle.law.specs.Limit.{particles, pairs as pairLimit}
 use Rattle.law.specs.Number.{short_buffer}
-use Rattle.law.specs.Promise.{Door, Promise}
+use Rattle.law.specs.Promise.{Promise}
 use Rattle.law.proofs.Promise.{refuses, accepts, work_or_refusal}
 use Rattle.law.specs.Put.{Written}
-use Rattle.law.specs.Refusal.{Test, unless, Rising, verdict}
-use Rattle.law.specs.Said.{Said, refused, carries}
-use Rattle.bench_text.specs.Text.{particle_count, pair_count, pair_numbers}
-use Rattle.bench_text.specs.Nine.{limits, number_by, PromiseBy}
+use Rattle.law.specs.Refusal.{Test, verdict}
+use Rattle.bench_text.specs.Text.{particle_count, pair_count}
+use Rattle.bench_text.specs.Nine.{limits, number_by}
 use Rattle.bench_text.proofs.Nine.{refused_by, is_described}
 use Rattle.bench_text.specs.Reading as reading
 use Rattle.bench_print.specs.Lines.{plan_text, lines_room}
@@ -21,7 +20,6 @@ use Rattle.bench_plan.specs.Built.{Counted}
 use Rattle.bench_plan.specs.Outcome as plan
 use Rattle.bench_plan.specs.declared.inner.Drafted.{Drafted}
 use Rattle.bench_plan.specs.declared.inner.Drafted.TheVariants as drafted
-use Rattle.bench_answer.specs.declared.Answered.{Answered}
 use Rattle.bench_answer.specs.declared.Answered.TheVariants.{Refused, Done}
 use Rattle.bench_answer.specs.Answering.{Answers, Out, answering, given, given_by, left, lines_of, refusals, work}
 

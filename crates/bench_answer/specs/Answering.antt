@@ -1,26 +1,14 @@
 -- THE DOOR `answer`: what it answers, and what it leaves in the lent room.
-use Rattle.std.specs.Prelude.{ℕ, ◌*◌, ◌≤◌, ◌<◌, List, [], ◌∷◌, ◌++◌, leb, length, drop}
-use Rattle.std.proofs.Math.Path.{◌≡◌, refl, ap}
-use Rattle.std.proofs.Common.{sym, ◌∙◌, arith, length-take-le}
-use Rattle.std.proofs.Math.Logic.{⊎_elim}
-use Rattle.std.proofs.Math.ListN.{take}
-use borrow.Author.Tests.{le-leb, lt-leb}
-use Rattle.law.specs.Limit.{particles, pairs as pairLimit}
+use Rattle.std.specs.Prelude.{ℕ, List, [], ◌∷◌, ◌++◌, leb, length, drop}
+use Rattle.std.proofs.Common.{arith}
 use Rattle.law.specs.Number.{short_buffer}
-use Rattle.law.specs.Promise.{Door, Promise}
-use Rattle.law.proofs.Promise.{refuses, accepts, work_or_refusal}
-use Rattle.law.specs.Put.{Written}
-use Rattle.law.specs.Refusal.{Test, unless, Rising, verdict}
+use Rattle.law.specs.Promise.{Door}
+use Rattle.law.specs.Refusal.{Test, unless, Rising}
 use Rattle.law.specs.Said.{Said, refused, carries}
 use Rattle.bench_text.specs.Text.{particle_count, pair_count, pair_numbers}
-use Rattle.bench_text.specs.Nine.{limits, number_by, PromiseBy}
-use Rattle.bench_text.proofs.Nine.{refused_by, is_described}
-use Rattle.bench_text.specs.Reading as reading
+use Rattle.bench_text.specs.Nine.{limits, PromiseBy}
 use Rattle.bench_print.specs.Lines.{plan_text, lines_room}
-use Rattle.bench_plan.specs.Built.{Counted}
 use Rattle.bench_plan.specs.Outcome as plan
-use Rattle.bench_plan.specs.declared.inner.Drafted.{Drafted}
-use Rattle.bench_plan.specs.declared.inner.Drafted.TheVariants as drafted
 use Rattle.bench_answer.specs.declared.Answered.{Answered}
 use Rattle.bench_answer.specs.declared.Answered.TheVariants.{Refused, Done}
 

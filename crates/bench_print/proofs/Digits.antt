@@ -1,5 +1,5 @@
 -- What follows of specs/Digits.antt: its theorems, apart from the definitions.
-use Rattle.std.specs.Prelude.{ℕ, zero, suc, ◌+◌, ◌/◌, ◌%◌, ◌≤◌, ◌<◌, ◌≡◌, refl, Bool, true, false, cond, List, [], ◌∷◌, ◌++◌, ltb}
+use Rattle.std.specs.Prelude.{ℕ, zero, suc, ◌+◌, ◌/◌, ◌%◌, ◌≤◌, ◌<◌, ◌≡◌, refl, Bool, true, false, [], ◌∷◌, ◌++◌, ltb}
 use Rattle.std.proofs.Common.{arith, div-add-mod', lt-ltb, le-ltb, ltb-true, ltb-false}
 use Rattle.law.specs.Decimal.{value, value_from, value_more}
 use Rattle.bench_print.specs.Digits.{digits, digits_in}

@@ -1,7 +1,5 @@
 -- A NUMBER'S DECIMAL DIGITS, and that they read back as the number.
-use Rattle.std.specs.Prelude.{ℕ, zero, suc, ◌+◌, ◌/◌, ◌%◌, ◌≤◌, ◌<◌, ◌≡◌, refl, Bool, true, false, cond, List, [], ◌∷◌, ◌++◌, ltb}
-use Rattle.std.proofs.Common.{arith, div-add-mod', lt-ltb, le-ltb, ltb-true, ltb-false}
-use Rattle.law.specs.Decimal.{value, value_from, value_more}
+use Rattle.std.specs.Prelude.{ℕ, zero, suc, ◌+◌, ◌/◌, ◌%◌, cond, List, [], ◌∷◌, ◌++◌, ltb}
 
 -- a number below ten is one digit; any other is the digits of its tenth, then the last one. The first
 -- argument bounds the depth. What a `let` binds waits, so nothing past the first digit is worked out

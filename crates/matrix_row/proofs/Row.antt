@@ -1,13 +1,10 @@
 -- What follows of specs/Row.antt: its theorems, apart from the definitions.
-use Rattle.std.specs.Prelude.{ℕ, ◌+◌, ◌-◌, ◌≤◌, ◌<◌, ◌≡◌, refl, Bool, true, false, ◌&&◌, cond, List, ltb, leb, length}
+use Rattle.std.specs.Prelude.{ℕ, ◌+◌, ◌-◌, ◌≤◌, ◌<◌, ◌≡◌, refl, Bool, true, false, cond, List, ltb, length}
 use Rattle.std.proofs.Common.{sym, ap, ◌∙◌, arith, leb-true, le-leb, lt-ltb}
 use Rattle.law.specs.Truth.{both}
 use Rattle.law.specs.Store.{part, length_part, part_at}
-use Rattle.law.specs.Limit.{absent}
 use Rattle.matrix_shape.specs.Rows.{at, Pattern, row_end}
 use Rattle.matrix_row.specs.declared.inner.Span.{Span}
-use Rattle.matrix_row.specs.declared.inner.Slot.{Slot}
-use Rattle.matrix_row.specs.declared.inner.Slot.TheVariants.{At, Absent}
 use Rattle.matrix_row.specs.Row.{Shown, none, row_cols, span_of}
 
 -- a row's slots are in order and within the columns

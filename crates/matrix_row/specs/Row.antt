@@ -1,11 +1,9 @@
 -- ONE ROW, SHOWN: its slots, its part of the column list, and what stands at a place of it. Total,
 -- whatever the lists hold; over a well formed pattern the row shown is the row (`row_shown`).
-use Rattle.std.specs.Prelude.{ℕ, ◌+◌, ◌-◌, ◌≤◌, ◌<◌, ◌≡◌, refl, Bool, true, false, ◌&&◌, cond, List, ltb, leb, length}
-use Rattle.std.proofs.Common.{sym, ap, ◌∙◌, arith, leb-true, le-leb, lt-ltb}
-use Rattle.law.specs.Truth.{both}
-use Rattle.law.specs.Store.{part, length_part, part_at}
+use Rattle.std.specs.Prelude.{ℕ, ◌+◌, ◌-◌, ◌≤◌, ◌<◌, ◌≡◌, ◌&&◌, cond, List, ltb, leb, length}
+use Rattle.law.specs.Store.{part}
 use Rattle.law.specs.Limit.{absent}
-use Rattle.matrix_shape.specs.Rows.{at, Pattern, row_end}
+use Rattle.matrix_shape.specs.Rows.{at}
 use Rattle.matrix_row.specs.declared.inner.Span.{Span}
 use Rattle.matrix_row.specs.declared.inner.Slot.{Slot}
 use Rattle.matrix_row.specs.declared.inner.Slot.TheVariants.{At, Absent}

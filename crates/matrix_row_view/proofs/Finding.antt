@@ -3,7 +3,7 @@ use Rattle.std.specs.Prelude.{ℕ, ◌-◌, ◌≤◌, ◌<◌, ◌≡◌, List}
 use Rattle.std.proofs.Common.{sym, ap, ◌∙◌, ⊎_elim, arith, get_or-take}
 use Rattle.law.specs.Limit.{absent}
 use Rattle.law.specs.Truth.{below_or, same_or}
-use Rattle.matrix_shape.specs.Formed.{InRow, Stored}
+use Rattle.matrix_shape.specs.Formed.{InRow}
 use Rattle.matrix_shape.specs.Rows.{at, Pattern}
 use Rattle.matrix_shape.specs.Index.{Strict, index_of, index_is, index_none}
 use Rattle.matrix_shape.specs.Search.{search_of}

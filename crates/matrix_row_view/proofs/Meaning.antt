@@ -1,11 +1,11 @@
 -- What follows of specs/Meaning.antt: its theorems, apart from the definitions.
-use Rattle.std.specs.Prelude.{ℕ, ◌+◌, ◌-◌, ◌≤◌, ◌<◌, ◌≡◌, Bool, false, ◌&&◌, cond, List, ◌++◌, leb, length, take}
+use Rattle.std.specs.Prelude.{ℕ, ◌+◌, ◌-◌, ◌<◌, ◌≡◌, Bool, false, ◌&&◌, cond, List, ◌++◌, leb, length, take}
 use Rattle.std.proofs.Math.Path.{refl}
 use Rattle.std.proofs.Common.{sym, ap, ◌∙◌, arith, length-take-le, get_or-take, leb-true, le-leb, lt-ltb, le-ltb}
 use Rattle.std.proofs.Math.Bool.{true}
 use Rattle.std.proofs.Math.ListN.{length-append, get_or-append}
 use Rattle.std.proofs.lemmas.List.{take-append-le}
-use Rattle.law.specs.Limit.{particles, absent}
+use Rattle.law.specs.Limit.{particles}
 use Rattle.law.specs.Truth.{both, and_true, untrue}
 use Rattle.law.specs.Store.{part, length_part, part_at}
 use Rattle.law.specs.Refusal.{verdict}
@@ -15,8 +15,7 @@ use Rattle.law.proofs.Promise.{accepts, zero_from}
 use Rattle.matrix_shape.specs.Rows.{at, Pattern, row_end}
 use Rattle.matrix_row.specs.declared.inner.Span.{Span}
 use Rattle.matrix_row.specs.Row.{none, span_of, row_cols}
-use Rattle.matrix_row_view.specs.declared.Spanned.TheVariants.{Slots}
-use Rattle.matrix_row_view.specs.Showing.{In, given, own_starts, own_cols, slots_of, column_of, refusals, rows_room, Ready}
+use Rattle.matrix_row_view.specs.Showing.{In, given, own_starts, own_cols, refusals, rows_room, Ready}
 use Rattle.matrix_row_view.proofs.Showing.{ready}
 use Rattle.matrix_row_view.specs.Showing.{span_door, column_door, slot_door}
 use Rattle.matrix_row_view.specs.Meaning.{Lies, Shows, end, i, start}
@@ -82,7 +81,6 @@ module _ (i : In) (r : Ready i) where
 
 -- A LONGER LIST'S REST IS NEVER SHOWN: whatever stands behind the lists of an accepted call, its outcome is the same
 module _ (n : ℕ) (starts cols : List ℕ) (row : ℕ) (more rest : List ℕ) (accepted : verdict (refusals (given n starts cols row)) ≡ 0) where
-
   abbrev longer : In
   longer = given n (starts ++ more) (cols ++ rest) row
 

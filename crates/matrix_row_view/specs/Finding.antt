@@ -1,16 +1,11 @@
 -- WHAT `row_slot` FINDS, in words, by the lists as they stand: a slot of the row that has the column; and where the row's columns rise strictly, none only
 -- where no slot has it. Over a well formed pattern it finds what `block_index` does.
-use Rattle.std.specs.Prelude.{ℕ, ◌-◌, ◌≤◌, ◌<◌, ◌≡◌, List}
-use Rattle.std.proofs.Common.{sym, ap, ◌∙◌, ⊎_elim, arith, get_or-take}
+use Rattle.std.specs.Prelude.{ℕ, ◌≡◌, List}
 use Rattle.law.specs.Limit.{absent}
-use Rattle.law.specs.Truth.{below_or, same_or}
 use Rattle.matrix_shape.specs.Formed.{InRow, Stored}
 use Rattle.matrix_shape.specs.Rows.{at, Pattern}
-use Rattle.matrix_shape.specs.Index.{Strict, index_of, index_is, index_none}
-use Rattle.matrix_shape.specs.Search.{search_of}
-use Rattle.matrix_shape.proofs.Search.{search_none, search_tells, search_misses}
-use Rattle.matrix_row.specs.declared.inner.Span.{Span}
-use Rattle.matrix_row_view.specs.Showing.{In, own_cols, slot_of, Ready}
+use Rattle.matrix_shape.specs.Index.{Strict, index_of}
+use Rattle.matrix_row_view.specs.Showing.{In, slot_of}
 use Rattle.matrix_row_view.specs.Meaning.{start, end, Lies}
 
 -- some slot of the row has the column

@@ -1,24 +1,11 @@
 -- WHAT THE DOORS SHOW, in words: a row whose bounds are in order and within the last row offset is its slots, with the columns that stand there;
 -- any other row has no block. What stands behind the pattern's own places is never shown.
-use Rattle.std.specs.Prelude.{ℕ, ◌+◌, ◌-◌, ◌≤◌, ◌<◌, ◌≡◌, Bool, false, ◌&&◌, cond, List, ◌++◌, leb, length, take}
-use Rattle.std.proofs.Math.Path.{refl}
-use Rattle.std.proofs.Common.{sym, ap, ◌∙◌, arith, length-take-le, get_or-take, leb-true, le-leb, lt-ltb, le-ltb}
-use Rattle.std.proofs.Math.Bool.{true}
-use Rattle.std.proofs.Math.ListN.{length-append, get_or-append}
-use Rattle.std.proofs.lemmas.List.{take-append-le}
-use Rattle.law.specs.Limit.{particles, absent}
-use Rattle.law.specs.Truth.{both, and_true, untrue}
-use Rattle.law.specs.Store.{part, length_part, part_at}
+use Rattle.std.specs.Prelude.{ℕ, ◌+◌, ◌-◌, ◌≤◌, ◌<◌, ◌≡◌, List}
+use Rattle.law.specs.Limit.{absent}
 use Rattle.law.specs.Refusal.{verdict}
-use Rattle.law.proofs.Room.{enough_of}
-use Rattle.law.specs.Promise.{Door, outcome}
-use Rattle.law.proofs.Promise.{accepts, zero_from}
-use Rattle.matrix_shape.specs.Rows.{at, Pattern, row_end}
-use Rattle.matrix_row.specs.declared.inner.Span.{Span}
-use Rattle.matrix_row.specs.Row.{none, span_of, row_cols}
+use Rattle.matrix_shape.specs.Rows.{at}
 use Rattle.matrix_row_view.specs.declared.Spanned.TheVariants.{Slots}
-use Rattle.matrix_row_view.specs.Showing.{In, given, own_starts, own_cols, slots_of, column_of, refusals, rows_room, Ready}
-use Rattle.matrix_row_view.specs.Showing.{span_door, column_door, slot_door}
+use Rattle.matrix_row_view.specs.Showing.{In, given, slots_of, column_of, refusals}
 
 -- where the row asked for starts and ends, by the row offsets as they stand
 abbrev pub start : In → ℕ

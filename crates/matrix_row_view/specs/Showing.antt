@@ -1,12 +1,10 @@
 -- THE DOORS THAT SHOW A ROW: `row_span`, `row_col` and `row_slot`. They change nothing, so the answer is all that they leave.
-use Rattle.std.specs.Prelude.{ℕ, ◌+◌, ◌≤◌, ◌<◌, ◌≡◌, true, List, [], ◌∷◌, leb, ltb, length, take}
-use Rattle.std.proofs.Common.{arith, leb-true, ltb-true}
+use Rattle.std.specs.Prelude.{ℕ, ◌+◌, ◌≤◌, ◌<◌, true, List, [], ◌∷◌, leb, ltb, length, take}
+use Rattle.std.proofs.Common.{arith}
 use Rattle.law.specs.Limit.{particles}
 use Rattle.law.specs.Number.{too_many_particles, short_buffer, out_of_range}
 use Rattle.law.specs.Room.{Room, enough}
-use Rattle.law.proofs.Room.{enough_is}
-use Rattle.law.specs.Refusal.{Test, unless, Rising, verdict}
-use Rattle.law.proofs.Refusals.{all_pass}
+use Rattle.law.specs.Refusal.{Test, unless, Rising}
 use Rattle.law.specs.Promise.{Door}
 use Rattle.law.specs.Said.{Said}
 use Rattle.matrix_shape.specs.Rows.{at}

@@ -1,7 +1,6 @@
 use mathlib.Core.Path.{sym}
 use lib.Seq.{length-take-le}
 use Rattle.bench_serve.specs.Reply.{line_written, lines_written}
-use borrow.Author.Rules.{rules}
 use Rattle.bench_serve.proofs.inner.reply.Goals as goal
 
 pub slice_bounds-answer-end : goal.slice_bounds-answer-end

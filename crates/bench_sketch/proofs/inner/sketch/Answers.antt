@@ -1,7 +1,6 @@
 use mathlib.Core.Path.{sym}
 use lib.Seq.{length-take-le}
 use Rattle.bench_sketch.specs.Sketch.{sketched_none, sketched}
-use borrow.Author.Rules.{rules}
 use Rattle.bench_sketch.proofs.inner.sketch.Goals as goal
 
 pub slice_bounds-from_text-end : goal.slice_bounds-from_text-end
