@@ -5,9 +5,10 @@ usage: tools/respell.py [FOLDER]      in the checkout FOLDER (.), once, behind p
 
 It reads every declaration of crates/*/specs and crates/*/proofs (fields and constructors too), works out the new spelling of each
 name with a hyphen or an inner capital, and turns it wherever it stands in .antt and .rt files, in must-fail edits, and, in
-backquotes, in comments and documents. A Proof.antt is turned too, without that look: it is written anew. It stops before it writes anything where a new spelling is another word already of a file that has the old one. It doesn't see
-two names of its own table that come to one spelling, nor parameters of functions: the checker refused each of those (docs/PORT.md). Functions of src/, exported C names, strings
-and numbers keep their names: none has a hyphen, and none is declared in specs/ or proofs/.
+backquotes, in comments and documents. It stops before it writes anything where a new spelling is another word already of a file
+that has the old one (a Proof.antt aside, which is written anew). It doesn't see two names of its own table that come to one
+spelling, nor parameters of functions: the checker refused each of those (docs/PORT.md). Functions of src/, exported C names,
+strings and numbers keep their names: none has a hyphen, and none is declared in specs/ or proofs/.
 """
 import collections
 import os
