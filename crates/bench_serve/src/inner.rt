@@ -1,6 +1,6 @@
 // What the bench programs do: a reader's text in, the answer out.
-ghost use Rattle.std.specs.Prelude.{◌≤◌, length, OnOk, IfSome};
-ghost use Rattle.std.specs.Io.KnownBytes.{Appends};
+ghost use Rattle.std.specs.Prelude.{◌≤◌, ℕ, List, length, OnOk, IfSome};
+ghost use Rattle.std.specs.Io.KnownBytes.{Appends, Consumes};
 ghost use Rattle.law.specs.Limit.{particles};
 ghost use Rattle.bench_text.specs.Buffer.{Buffered};
 ghost use Rattle.bench_print.specs.Lines.{lines_room};
@@ -25,10 +25,12 @@ fn reply(n: usize, buffer: &[u8], out: &mut [u8]) -> usize
     }
 }
 
-// Where no read and no write fails, what is written is the answer to all that the reader has.
+// Where no read and no write fails, what is written is the answer to all that the reader has. Behind an error too the reader has given its bytes in
+// order; of a writer whose write failed the library says nothing.
 pub fn serve<R: Read, W: Write>(reader: &mut R, writer: &mut W) -> io::Result<()>
-    ensures { OnOk result
+    ensures written { OnOk result
         (IfSome (R.remaining reader.old) (λ input. Appends (W.contents writer.old) (W.contents writer.new) (answer_of input))) }
+    ensures read { (bs : List ℕ) × Consumes (R.remaining reader.old) (R.remaining reader.new) bs }
 {
     let mut buffer = [0u8; law::BYTES + 1];
     let n = bench_text::buffer::read_full(reader, &mut buffer)?;

@@ -1,7 +1,7 @@
 -- FILLING THE BUFFER: the bytes at its front are those that the reader has given.
 use Rattle.std.proofs.Common.{◌≡◌, ℕ, ◌+◌, ◌-◌, ◌≤◌, List, ◌++◌, Option, None, Some, arith, length, take, slice_range, sym, ap, ◌∙◌, subst, le_refl, drop_at, length-take-le, append_assoc}
 use Rattle.std.proofs.lemmas.Slice.{take-put_mid_below}
-use Rattle.std.specs.Io.KnownBytes.{Consumes, Keeps}
+use Rattle.std.specs.Io.KnownBytes.{Consumes}
 use borrow.Rule.Slice.PartMut.{put_mid, post_of}
 use lib.Seq.{take-add, take-append-le}
 
@@ -10,12 +10,6 @@ both_read None b c bs cs p q = tt
 both_read (Some x) None c bs cs p q = absurd p
 both_read (Some x) (Some y) None bs cs p q = absurd q
 both_read (Some x) (Some y) (Some z) bs cs p q = p ∙ ap (λ l. bs ++ l) q ∙ sym (append_assoc bs cs z)
-
-still_read : (a b c : Option (List ℕ)) (bs : List ℕ) → Consumes a b bs → Keeps b c → Consumes a c bs
-still_read None b c bs p q = tt
-still_read (Some x) None c bs p q = absurd p
-still_read (Some x) (Some y) None bs p q = absurd q
-still_read (Some x) (Some y) (Some z) bs p q = p ∙ ap (λ l. bs ++ l) (sym q)
 
 take_split : (a b : ℕ) (old new : List ℕ) → a ≤ b → take a new ≡ take a old → take a old ++ slice_range new a b ≡ take b new
 take_split a b old new h front =
@@ -34,9 +28,3 @@ pub more_read : (a b c : Option (List ℕ)) (at k n : ℕ) (buffer part : List �
 more_read a b c at k n buffer part within fits p q =
     let whole = take_split at (at + n) buffer (put_mid at k buffer part) (omega arith) (take-put_mid_below _ _ _ _ _ (le_refl _) within) in
     subst (Consumes a c) (ap (λ l. take at buffer ++ l) (sym (part_put at k n buffer part within fits)) ∙ whole) (both_read a b c _ _ p q)
-
--- none, since the read failed
-pub none_read : (a b c : Option (List ℕ)) (at k : ℕ) (buffer part : List ℕ) → at ≤ length buffer → Consumes a b (take at buffer) → Keeps b c
-    → Consumes a c (take at (put_mid at k buffer part))
-none_read a b c at k buffer part within p q =
-    subst (Consumes a c) (sym (take-put_mid_below _ _ _ _ _ (le_refl _) within)) (still_read a b c _ p q)

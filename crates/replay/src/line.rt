@@ -4,7 +4,7 @@ ghost use Rattle.std.specs.Prelude.{◌≤◌, length, IfOk};
 use crate::answer::answer;
 use replay_tokens::print::{Room, unknown};
 use std::io;
-use std::io::{ErrorKind, Read};
+use std::io::Read;
 
 // Answers the line of n bytes. One that fills its buffer may have lost its end, so it is taken for none.
 fn respond(line: &[u8], n: usize, words: &mut [u32], out: &mut Room)
@@ -47,23 +47,6 @@ fn steps(chunk: &[u8], line: &mut [u8], n: usize, words: &mut [u32], out: &mut R
     at
 }
 
-// As much as one read of the file gives; one that was interrupted is tried again.
-fn read<R: Read>(file: &mut R, chunk: &mut [u8]) -> io::Result<usize>
-    ensures { IfOk result (λ k. k ≤ length chunk.new) }
-{
-    for _ in 0..u64::MAX {
-        match file.read(chunk) {
-            Ok(k) => return Ok(k),
-            Err(e) => {
-                if e.kind() != ErrorKind::Interrupted {
-                    return Err(e);
-                }
-            }
-        }
-    }
-    Err(io::Error::from(ErrorKind::Other))
-}
-
 // Every line that ends in the file; the length of what stands after the last of them. Nothing says that a file ends, so the
 // turns are counted down from a number that no run uses up.
 fn ended<R: Read>(
@@ -78,7 +61,7 @@ fn ended<R: Read>(
     let mut turns = u64::MAX;
     let mut n = 0usize;
     while turns > 0 {
-        let k = read(file, chunk)?;
+        let k = file.read(chunk)?;
         if k == 0 {
             return Ok(n);
         }
