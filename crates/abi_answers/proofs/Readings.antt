@@ -3,10 +3,9 @@ use Prim.Native.Nat.{ℕ}
 use mathlib.Core.Path.{◌≡◌, refl}
 use lib.Ieee.{Float}
 use Rattle.plane.specs.Plane.{zero32}
-use Rattle.matrix_doors.specs.declared.Found.TheVariants as found
-use Rattle.factor_doors.specs.declared.Factored.TheVariants as factored
+use Rattle.std.specs.Prelude.{Ok, Err}
+use Rattle.law.specs.declared.refusal.Refusal.{Refusal}
 use Rattle.gradient_definition.specs.declared.Outcome.TheVariants.{Zero, Near, Converged, Curvature, Limit}
-use Rattle.gradient_doors.specs.declared.Solved.TheVariants as solved
 use Rattle.abi_answers.specs.declared.ended.Places.{Places}
 use Rattle.abi_answers.specs.Telling.{Factor, factor, places}
 use Rattle.abi_answers.specs.Numbers.{found_slot}
@@ -14,19 +13,19 @@ use Rattle.abi_answers.specs.Direct as direct
 use Rattle.abi_answers.specs.Told as told
 
 record Readings : Type 0 where
-  slot : (slot old : ℕ) → found_slot (found.Slot slot) old ≡ slot
-  no_slot : (k old : ℕ) → found_slot (found.Refused k) old ≡ old
+  slot : (slot old : ℕ) → found_slot (Ok slot) old ≡ slot
+  no_slot : (k : Refusal) (old : ℕ) → found_slot (Err k) old ≡ old
   -- a factor's places: only a failure writes row and pivot
-  whole : (old : Factor) → direct.places_of factored.Done old ≡ factor 0 old.row old.pivot
-  failed : (row : ℕ) (pivot : Float) (old : Factor) → direct.places_of (factored.Failed row pivot) old ≡ factor 1 row pivot
-  no_factor : (k : ℕ) (old : Factor) → direct.places_of (factored.Refused k) old ≡ old
+  whole : (old : Factor) → direct.places_of (Ok (Ok tt)) old ≡ factor 0 old.row old.pivot
+  failed : (row : ℕ) (pivot : Float) (old : Factor) → direct.places_of (Ok (Err (record { row = row; pivot = pivot }))) old ≡ factor 1 row pivot
+  no_factor : (k : Refusal) (old : Factor) → direct.places_of (Err k) old ≡ old
   -- an ending's places
-  zero : (count : ℕ) (old : Places) → told.places_of (solved.Ran (Zero count)) old ≡ places 1 count zero32 zero32
-  near : (count : ℕ) (squared : Float) (old : Places) → told.places_of (solved.Ran (Near count squared)) old ≡ places 2 count squared zero32
-  converged : (count : ℕ) (squared : Float) (old : Places) → told.places_of (solved.Ran (Converged count squared)) old ≡ places 3 count squared zero32
-  curvature : (count : ℕ) (squared den : Float) (old : Places) → told.places_of (solved.Ran (Curvature count squared den)) old ≡ places 4 count squared den
-  limit : (count : ℕ) (squared : Float) (old : Places) → told.places_of (solved.Ran (Limit count squared)) old ≡ places 5 count squared zero32
-  no_ending : (k : ℕ) (old : Places) → told.places_of (solved.Refused k) old ≡ old
+  zero : (count : ℕ) (old : Places) → told.places_of (Ok (Zero count)) old ≡ places 1 count zero32 zero32
+  near : (count : ℕ) (squared : Float) (old : Places) → told.places_of (Ok (Near count squared)) old ≡ places 2 count squared zero32
+  converged : (count : ℕ) (squared : Float) (old : Places) → told.places_of (Ok (Converged count squared)) old ≡ places 3 count squared zero32
+  curvature : (count : ℕ) (squared den : Float) (old : Places) → told.places_of (Ok (Curvature count squared den)) old ≡ places 4 count squared den
+  limit : (count : ℕ) (squared : Float) (old : Places) → told.places_of (Ok (Limit count squared)) old ≡ places 5 count squared zero32
+  no_ending : (k : Refusal) (old : Places) → told.places_of (Err k) old ≡ old
 
 readings : Readings
 readings = record {

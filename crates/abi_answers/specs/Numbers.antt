@@ -1,34 +1,43 @@
 -- ANSWERS AS NUMBERS: over the C ABI a call answers its refusal's number, and 0 for acceptance; its lists are left as its own promise says.
-use Rattle.std.specs.Prelude.{ℕ, ◌≡◌}
+use Rattle.std.specs.Prelude.{ℕ, ◌≡◌, refl, Result, Ok, Err}
 use Rattle.std.proofs.Common.{sym, ap, ◌∙◌, subst}
 use Rattle.law.specs.Promise.{Door, Promise, outcome}
 use Rattle.law.specs.Said.{refusal_of}
 use Rattle.law.specs.One.{One}
 use Rattle.law.proofs.One.{comes_so}
+use Rattle.law.specs.declared.refusal.Refusal.{Refusal}
+use Rattle.law.specs.Number.{number}
+use Rattle.law.specs.Refusal.{Verdict}
 use Rattle.matrix_building.specs.Said.{built_said}
 use Rattle.matrix_doors.specs.Said.{ran_said, found_said}
 use Rattle.plan_doors.specs.Said.{planned_said}
-use Rattle.matrix_building.specs.declared.Built.{Built}
-use Rattle.matrix_doors.specs.declared.Found.{Found}
-use Rattle.matrix_doors.specs.declared.Ran.{Ran}
-use Rattle.plan_doors.specs.declared.Planned.{Planned}
 use Rattle.abi_answers.specs.Telling.{whole_by}
 
-abbrev pub built_number : Built → ℕ
-built_number a = refusal_of (built_said a)
+-- the number of an answer, whichever call's: its refusal's own, and 0 for acceptance
+abbrev pub answered : {A : Type 0} → Result A Refusal → ℕ
+answered (Ok _) = 0
+answered (Err k) = number k
 
-abbrev pub ran_number : Ran → ℕ
-ran_number a = refusal_of (ran_said a)
+-- it is what the answer says
+pub built_number : (a : Result ℕ Refusal) → answered a ≡ refusal_of (built_said a)
+built_number (Ok blocks) = refl
+built_number (Err k) = refl
 
-abbrev pub found_number : Found → ℕ
-found_number a = refusal_of (found_said a)
+pub ran_number : (a : Verdict) → answered a ≡ refusal_of (ran_said a)
+ran_number (Ok _) = refl
+ran_number (Err k) = refl
+
+pub found_number : (a : Result ℕ Refusal) → answered a ≡ refusal_of (found_said a)
+found_number (Ok slot) = refl
+found_number (Err k) = refl
+
+pub planned_number : (a : Result ℕ Refusal) → answered a ≡ refusal_of (planned_said a)
+planned_number (Ok len) = refl
+planned_number (Err k) = refl
 
 -- what a lent place for the slot then holds: the slot, or what it held
-abbrev pub found_slot : Found → ℕ → ℕ
+abbrev pub found_slot : Result ℕ Refusal → ℕ → ℕ
 found_slot a old = whole_by (found_said a) old
-
-abbrev pub planned_number : Planned → ℕ
-planned_number a = refusal_of (planned_said a)
 
 -- r is the number of the answer that the door comes to, and the lists are those that it leaves: with that answer they make up the outcome
 pub record Numbered {I O A : Type 0} (d : Door I O) (answer : O → A) (number : A → ℕ) (i : I) (r : ℕ) (left : A → O) : Type 0 where
@@ -56,7 +65,7 @@ told {I} {O} {A} d answer number tells i r left before after a e f g h =
 -- ONE OUTCOME w of such a promise: `num` is the number that w answers, `left` its lists beside an answer, and `back` makes w of both
 module _ {I O A W : Type 0} (d : Door I O) (answer : O → A) (number : A → ℕ) (i : I) (num : W → ℕ) (left : W → A → O) where
   pub of_numbered : (back : ℕ → O → W) → ((r : ℕ) → left (back r (d.work i)) (answer (d.work i)) ≡ d.work i)
-      → ((k r : ℕ) → left (back r (d.refuse k i)) (answer (d.refuse k i)) ≡ d.refuse k i) → ((r : ℕ) (o : O) → num (back r o) ≡ r)
+      → ((k : Refusal) (r : ℕ) → left (back r (d.refuse k i)) (answer (d.refuse k i)) ≡ d.refuse k i) → ((r : ℕ) (o : O) → num (back r o) ≡ r)
       → ((w : W) (a : A) → back (num w) (left w a) ≡ w) → One (λ (w : W). Numbered d answer number i (num w) (left w))
   of_numbered back works refuses nums f =
       let o : O = outcome d i in
@@ -71,7 +80,7 @@ module _ {I O A W : Type 0} (d : Door I O) (answer : O → A) (number : A → �
   -- and `after` the places, that held p
   pub of_told : {P : Type 0} (tells : A → P → P) (before : P) (after : W → P) (back : ℕ → O → P → W)
       → ((r : ℕ) (p : P) → left (back r (d.work i) p) (answer (d.work i)) ≡ d.work i)
-      → ((k r : ℕ) (p : P) → left (back r (d.refuse k i) p) (answer (d.refuse k i)) ≡ d.refuse k i)
+      → ((k : Refusal) (r : ℕ) (p : P) → left (back r (d.refuse k i) p) (answer (d.refuse k i)) ≡ d.refuse k i)
       → ((r : ℕ) (o : O) (p : P) → (num (back r o p) ≡ r) × (after (back r o p) ≡ p))
       → ((w : W) (a : A) → back (num w) (left w a) (after w) ≡ w) → One (λ (w : W). Told d answer number tells i (num w) (left w) before (after w))
   of_told {P} tells before after back works refuses parts f =

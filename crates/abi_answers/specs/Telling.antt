@@ -4,6 +4,7 @@ use Rattle.std.specs.Prelude.{ℕ, ◌≡◌, List, get_or, Float}
 use Rattle.law.specs.Said.{Said, refused, carries}
 use Rattle.plane.specs.Plane.{zero32}
 use Rattle.abi_answers.specs.declared.ended.Places.{Places}
+pub use Rattle.abi_answers.specs.declared.factored.Factor.{Factor}
 
 -- ---- one place: which case it is; a whole number and the first float carried, where none is what the place held
 
@@ -24,11 +25,6 @@ float_by (refused k) old = old
 float_by (carries how counts values) old = get_or values 0 old
 
 -- ---- a factor's three places: which case it is, and row and pivot, which are written only where they are carried
-
-pub record Factor : Type 0 where
-  pub how : ℕ
-  pub row : ℕ
-  pub pivot : Float
 
 abbrev pub factor : ℕ → ℕ → Float → Factor
 factor how row pivot = record { how = how; row = row; pivot = pivot }

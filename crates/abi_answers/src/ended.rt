@@ -1,11 +1,11 @@
-// The conjugate gradient's answers, and the four places that say how a solve ended.
+// The four places that say how a solve ended. `how` is a number: it is the C interface.
 ghost use Rattle.std.specs.Prelude.{◌≡◌};
-ghost use Rattle.abi_answers.specs.Telling.{places};
-ghost use Rattle.abi_answers.specs.Told.{updated_number, solved_number, places_of, told_of};
+ghost use Rattle.abi_answers.specs.Told.{places_of, told_of};
 
 use gradient_definition::Outcome;
-use gradient_doors::{Solved, Updated};
+use law::refusal::Refusal;
 
+// The outcome's number, its count, the residual's squared length and the denominator; 0 and +0.0 where it carries none.
 #[derive(Clone, Copy)]
 pub struct Places {
     pub how: u32,
@@ -14,66 +14,57 @@ pub struct Places {
     pub denominator: f32,
 }
 
-pub fn updated_number(u: Updated) -> u8
-    ensures { result ≡ updated_number u }
-{
-    match u {
-        Updated::Refused(k) => k,
-        Updated::Done => 0,
+impl From<Outcome> for Places {
+    ghost from_gives = { λ o p. p ≡ told_of o };
+
+    fn from(outcome: Outcome) -> Places {
+        match outcome {
+            Outcome::Zero { count } => Places {
+                how: 1,
+                count,
+                residual_squared: 0.0,
+                denominator: 0.0,
+            },
+            Outcome::Near { count, residual } => Places {
+                how: 2,
+                count,
+                residual_squared: residual,
+                denominator: 0.0,
+            },
+            Outcome::Converged { count, residual } => Places {
+                how: 3,
+                count,
+                residual_squared: residual,
+                denominator: 0.0,
+            },
+            Outcome::Curvature {
+                count,
+                residual,
+                denominator,
+            } => Places {
+                how: 4,
+                count,
+                residual_squared: residual,
+                denominator,
+            },
+            Outcome::Limit { count, residual } => Places {
+                how: 5,
+                count,
+                residual_squared: residual,
+                denominator: 0.0,
+            },
+        }
     }
 }
 
-pub fn solved_number(s: Solved) -> u8
-    ensures { result ≡ solved_number s }
-{
-    match s {
-        Solved::Refused(k) => k,
-        Solved::Ran(_) => 0,
-    }
-}
-
-// The four places, filled.
-pub fn filled(how: u32, count: usize, residual_squared: f32, denominator: f32) -> Places
-    ensures { result ≡ places how count residual_squared denominator }
-{
-    Places {
-        how: how,
-        count: count,
-        residual_squared: residual_squared,
-        denominator: denominator,
-    }
-}
-
-pub fn told(o: Outcome) -> Places
-    ensures { result ≡ told_of o }
-{
-    match o {
-        Outcome::Zero { count: k } => filled(1, k, 0.0, 0.0),
-        Outcome::Near {
-            count: k,
-            residual: a,
-        } => filled(2, k, a, 0.0),
-        Outcome::Converged {
-            count: k,
-            residual: a,
-        } => filled(3, k, a, 0.0),
-        Outcome::Curvature {
-            count: k,
-            residual: a,
-            denominator: d,
-        } => filled(4, k, a, d),
-        Outcome::Limit {
-            count: k,
-            residual: a,
-        } => filled(5, k, a, 0.0),
-    }
-}
-
-pub fn after(s: Solved, how: u32, count: usize, residual_squared: f32, denominator: f32) -> Places
-    ensures { result ≡ places_of s (places how count residual_squared denominator) }
-{
-    match s {
-        Solved::Refused(_) => filled(how, count, residual_squared, denominator),
-        Solved::Ran(o) => told(o),
+impl Places {
+    // What the places hold after an answer; a refusal leaves them.
+    pub fn after(self, answer: Result<Outcome, Refusal>) -> Places
+        ensures { result ≡ places_of answer self }
+    {
+        match answer {
+            Err(_) => self,
+            Ok(outcome) => Places::from(outcome),
+        }
     }
 }

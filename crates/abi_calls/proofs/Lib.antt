@@ -1,1 +1,2 @@
 mod Outcome
+mod RowReadings

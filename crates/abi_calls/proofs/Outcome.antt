@@ -14,10 +14,11 @@ use Rattle.factor_doors.specs.Factorizing as factorizing
 use Rattle.factor_doors.specs.Solving as direct-solving
 use Rattle.gradient_doors.specs.Updating as updating
 use Rattle.gradient_doors.specs.Solving as solving
-use Rattle.abi_answers.specs.Numbers.{built_number, ran_number, planned_number, of_numbered, of_told}
-use Rattle.abi_row_answers.specs.Row.{spanned_number, spanned_first, spanned_len, seen_number, seen_col, placed_number, placed_slot}
+use Rattle.abi_floats.specs.Handed.{handed}
+use Rattle.abi_answers.specs.Numbers.{answered, of_numbered, of_told}
+use Rattle.abi_calls.specs.Row.{spanned_first, spanned_len, seen_col, placed_slot}
 use Rattle.abi_answers.specs.Direct as direct
-use Rattle.abi_answers.specs.Told.{updated_number, solved_number, places_of}
+use Rattle.abi_answers.specs.Told.{places_of}
 use Rattle.abi_calls.specs.contracts.bracket_root as bracket-root
 use Rattle.abi_calls.specs.contracts.bracket_dot as bracket-dot
 use Rattle.abi_calls.specs.contracts.bracket_determinant as bracket-determinant
@@ -51,42 +52,46 @@ pub one_bracket_determinant : OneOutcome bracket-determinant.ended (λ M 𝓤. b
 one_bracket_determinant = plainly bracket-determinant.ended _ (λ κs a p. of_parts _ _ (λ r. (r, past 4 tt)) refl (λ w. refl))
 
 pub one_bracket_times : OneOutcome bracket-times.ended (λ M 𝓤. bracket-times.spec)
-one_bracket_times = plainly bracket-times.ended _ (λ κs a p. of_parts _ _ (λ o. (o.number, past 6 (o.out, tt))) refl (λ w. refl))
+one_bracket_times = plainly bracket-times.ended _ (λ κs a p.
+    of_numbered (handed _) (λ o. o.answer) answered _ _ _
+    (λ r o. (r, past 6 (o.out, tt))) (λ r. refl) (λ k r. refl) (λ r o. refl) (λ w a. refl))
 
 pub one_bracket_inverse : OneOutcome bracket-inverse.ended (λ M 𝓤. bracket-inverse.spec)
-one_bracket_inverse = plainly bracket-inverse.ended _ (λ κs a p. of_parts _ _ (λ o. (o.number, past 4 (o.out, tt))) refl (λ w. refl))
+one_bracket_inverse = plainly bracket-inverse.ended _ (λ κs a p.
+    of_numbered (handed _) (λ o. o.answer) answered _ _ _
+    (λ r o. (r, past 4 (o.out, tt))) (λ r. refl) (λ k r. refl) (λ r o. refl) (λ w a. refl))
 
 pub one_bracket_row_first : OneOutcome bracket-row-first.ended (λ M 𝓤. bracket-row-first.spec)
 one_bracket_row_first = plainly bracket-row-first.ended _ (λ κs a p.
-    of_told showing.span_door (λ o. o.answer) spanned_number _ _ _ spanned_first _ _
+    of_told showing.span_door (λ o. o.answer) answered _ _ _ spanned_first _ _
     (λ r o p. (r, past 4 (p, tt))) (λ r p. refl) (λ k r p. refl) (λ r o p. (refl, refl)) (λ w a. refl))
 
 pub one_bracket_row_len : OneOutcome bracket-row-len.ended (λ M 𝓤. bracket-row-len.spec)
 one_bracket_row_len = plainly bracket-row-len.ended _ (λ κs a p.
-    of_told showing.span_door (λ o. o.answer) spanned_number _ _ _ spanned_len _ _
+    of_told showing.span_door (λ o. o.answer) answered _ _ _ spanned_len _ _
     (λ r o p. (r, past 4 (p, tt))) (λ r p. refl) (λ k r p. refl) (λ r o p. (refl, refl)) (λ w a. refl))
 
 pub one_bracket_row_col : OneOutcome bracket-row-col.ended (λ M 𝓤. bracket-row-col.spec)
 one_bracket_row_col = plainly bracket-row-col.ended _ (λ κs a p.
-    of_told (showing.column_door _) (λ o. o.answer) seen_number _ _ _ seen_col _ _
+    of_told (showing.column_door _) (λ o. o.answer) answered _ _ _ seen_col _ _
     (λ r o p. (r, past 5 (p, tt))) (λ r p. refl) (λ k r p. refl) (λ r o p. (refl, refl)) (λ w a. refl))
 
 pub one_bracket_row_slot : OneOutcome bracket-row-slot.ended (λ M 𝓤. bracket-row-slot.spec)
 one_bracket_row_slot = plainly bracket-row-slot.ended _ (λ κs a p.
-    of_told (showing.slot_door _) (λ o. o.answer) placed_number _ _ _ placed_slot _ _
+    of_told (showing.slot_door _) (λ o. o.answer) answered _ _ _ placed_slot _ _
     (λ r o p. (r, past 5 (p, tt))) (λ r p. refl) (λ k r p. refl) (λ r o p. (refl, refl)) (λ w a. refl))
 
 pub one_bracket_from_pairs : OneOutcome bracket-from-pairs.ended (λ M 𝓤. bracket-from-pairs.spec)
 unfolding frompairs.work building.work
 one_bracket_from_pairs = plainly bracket-from-pairs.ended _ (λ κs a p.
-    of_numbered frompairs.door (λ o. o.pattern.answer) built_number _ _ _
+    of_numbered frompairs.door (λ o. o.pattern.answer) answered _ _ _
     (λ r o. (r, past 3 (o.pattern.row_offsets, (o.pattern.cols, (o.pattern.diagonal, (o.blocks, (o.pattern.work, tt)))))))
     (λ r. refl) (λ k r. refl) (λ r o. refl) (λ w a. refl))
 
 pub one_bracket_pattern_from_pairs : OneOutcome bracket-pattern-from-pairs.ended (λ M 𝓤. bracket-pattern-from-pairs.spec)
 unfolding building.work
 one_bracket_pattern_from_pairs = plainly bracket-pattern-from-pairs.ended _ (λ κs a p.
-    of_numbered building.door (λ o. o.answer) built_number _ _ _
+    of_numbered building.door (λ o. o.answer) answered _ _ _
     (λ r o. (r, past 3 (o.row_offsets, (o.cols, (o.diagonal, (o.work, tt)))))) (λ r. refl) (λ k r. refl) (λ r o. refl) (λ w a. refl))
 
 pub one_bracket_block_index : OneOutcome bracket-block-index.ended (λ M 𝓤. bracket-block-index.spec)
@@ -97,28 +102,28 @@ one_bracket_diagonal_index = plainly bracket-diagonal-index.ended _ (λ κs a p.
 
 pub one_bracket_clear_values : OneOutcome bracket-clear-values.ended (λ M 𝓤. bracket-clear-values.spec)
 one_bracket_clear_values = plainly bracket-clear-values.ended _ (λ κs a p.
-    of_numbered clearing.door (λ o. o.answer) ran_number _ _ _
+    of_numbered clearing.door (λ o. o.answer) answered _ _ _
     (λ r o. (r, past 4 (o.blocks, tt))) (λ r. refl) (λ k r. refl) (λ r o. refl) (λ w a. refl))
 
 pub one_bracket_mul : OneOutcome bracket-mul.ended (λ M 𝓤. bracket-mul.spec)
 one_bracket_mul = plainly bracket-mul.ended _ (λ κs a p.
-    of_numbered multiplying.door (λ o. o.answer) ran_number _ _ _
+    of_numbered multiplying.door (λ o. o.answer) answered _ _ _
     (λ r o. (r, past 6 (o.out, tt))) (λ r. refl) (λ k r. refl) (λ r o. refl) (λ w a. refl))
 
 pub one_bracket_make_dirichlet : OneOutcome bracket-make-dirichlet.ended (λ M 𝓤. bracket-make-dirichlet.spec)
 one_bracket_make_dirichlet = plainly bracket-make-dirichlet.ended _ (λ κs a p.
-    of_numbered pinning.door (λ o. o.answer) ran_number _ _ _
+    of_numbered pinning.door (λ o. o.answer) answered _ _ _
     (λ r o. (r, past 5 (o.blocks, tt))) (λ r. refl) (λ k r. refl) (λ r o. refl) (λ w a. refl))
 
 pub one_bracket_make_dirichlet_marked : OneOutcome bracket-make-dirichlet-marked.ended (λ M 𝓤. bracket-make-dirichlet-marked.spec)
 one_bracket_make_dirichlet_marked = plainly bracket-make-dirichlet-marked.ended _ (λ κs a p.
-    of_numbered pinningmarked.door (λ o. o.answer) ran_number _ _ _
+    of_numbered pinningmarked.door (λ o. o.answer) answered _ _ _
     (λ r o. (r, past 5 (o.blocks, tt))) (λ r. refl) (λ k r. refl) (λ r o. refl) (λ w a. refl))
 
 pub one_bracket_plan : OneOutcome bracket-plan.ended (λ M 𝓤. bracket-plan.spec)
 unfolding planning.work planning.refuse
 one_bracket_plan = plainly bracket-plan.ended _ (λ κs a p.
-    of_numbered planning.door (λ o. o.answer) planned_number _ _ _
+    of_numbered planning.door (λ o. o.answer) answered _ _ _
     (λ r o. (
       r,
       past 4 (
@@ -139,25 +144,25 @@ one_bracket_plan = plainly bracket-plan.ended _ (λ κs a p.
 pub one_bracket_factorize : OneOutcome bracket-factorize.ended (λ M 𝓤. bracket-factorize.spec)
 unfolding factorizing.work
 one_bracket_factorize = plainly bracket-factorize.ended _ (λ κs a p.
-    of_told factorizing.door (λ o. o.answer) direct.factored_number _ _ _ direct.places_of _ _
+    of_told factorizing.door (λ o. o.answer) answered _ _ _ direct.places_of _ _
     (λ r o p. (r, past 9 (o.values, (p.how, (p.row, (p.pivot, tt)))))) (λ r p. refl) (λ k r p. refl)
     (λ r o p. (refl, refl)) (λ w a. refl))
 
 pub one_bracket_solve : OneOutcome bracket-solve.ended (λ M 𝓤. bracket-solve.spec)
 unfolding direct-solving.work
 one_bracket_solve = plainly bracket-solve.ended _ (λ κs a p.
-    of_numbered direct-solving.door (λ o. o.answer) direct.solved_number _ _ _
+    of_numbered direct-solving.door (λ o. o.answer) answered _ _ _
     (λ r o. (r, past 7 (o.x, (o.scratch, tt)))) (λ r. refl) (λ k r. refl) (λ r o. refl) (λ w a. refl))
 
 pub one_bracket_update_preconditioner : OneOutcome bracket-update-preconditioner.ended (λ M 𝓤. bracket-update-preconditioner.spec)
 one_bracket_update_preconditioner = plainly bracket-update-preconditioner.ended _ (λ κs a p.
-    of_numbered updating.door (λ o. o.answer) updated_number _ _ _
+    of_numbered updating.door (λ o. o.answer) answered _ _ _
     (λ r o. (r, past 5 (o.preconditioner, tt))) (λ r. refl) (λ k r. refl) (λ r o. refl) (λ w a. refl))
 
 pub one_bracket_conjugate_gradient : OneOutcome bracket-conjugate-gradient.ended (λ M 𝓤. bracket-conjugate-gradient.spec)
 unfolding solving.work
 one_bracket_conjugate_gradient = plainly bracket-conjugate-gradient.ended _ (λ κs a p.
-    of_told solving.door (λ o. o.answer) solved_number _ _ _ places_of _ _
+    of_told solving.door (λ o. o.answer) answered _ _ _ places_of _ _
     (λ r o p. (r, past 9 (o.x, (o.residual, (o.direction, (o.a_direction, (o.z, (p.how, (p.count, (p.residual_squared, (p.denominator, tt)))))))))))
     (λ r p. refl) (λ k r p. refl)
     (λ r o p. (refl, refl)) (λ w a. refl))

@@ -1,4 +1,5 @@
 // The block matrix's calls. Each answers the refusal's number, or 0; the lists are left as the call's own promise says.
+// Numbers, lists and lent places stand one by one, and the answer is a byte: it is the C interface.
 ghost use Rattle.std.specs.Prelude.{◌≡◌};
 ghost use Rattle.law.specs.Promise.{outcome};
 ghost use Rattle.matrix_doors.specs.Indexing as indexing;
@@ -8,9 +9,11 @@ ghost use Rattle.matrix_doors.specs.Pinning as pinning;
 ghost use Rattle.matrix_doors.specs.PinningMarked as pinningmarked;
 ghost use Rattle.matrix_building.specs.Building as building;
 ghost use Rattle.matrix_building.specs.FromPairs as frompairs;
-ghost use Rattle.abi_answers.specs.Numbers.{built_number, ran_number, found_number, found_slot, Numbered};
+ghost use Rattle.matrix_shape.specs.Shape.{shape};
+ghost use Rattle.abi_answers.specs.Numbers.{answered, found_slot, Numbered};
 
-use abi_answers::built::{built_number, found_number, found_slot, ran_number};
+use abi_answers::number;
+use matrix_shape::pattern::Pattern;
 
 #[unsafe(no_mangle)]
 pub extern "C" fn bracket_from_pairs(
@@ -23,23 +26,14 @@ pub extern "C" fn bracket_from_pairs(
     blocks: &mut [f32],
     work: &mut [u32],
 ) -> u8
-    ensures { Numbered frompairs.door (λ o. o.pattern.answer) built_number
+    ensures { Numbered frompairs.door (λ o. o.pattern.answer) answered
         (frompairs.given (building.given n count pairs.now row_offsets.old cols.old diagonal.old
         work.old) blocks.old)
         result
         (λ a. frompairs.left (building.left a row_offsets.new cols.new diagonal.new work.new)
         blocks.new) }
 {
-    built_number(matrix_doors::from_pairs(
-        n,
-        count,
-        pairs,
-        row_offsets,
-        cols,
-        diagonal,
-        blocks,
-        work,
-    ))
+    number(&matrix_doors::from_pairs(n, count, pairs, row_offsets, cols, diagonal, blocks, work))
 }
 
 #[unsafe(no_mangle)]
@@ -52,20 +46,12 @@ pub extern "C" fn bracket_pattern_from_pairs(
     diagonal: &mut [u32],
     work: &mut [u32],
 ) -> u8
-    ensures { Numbered building.door (λ o. o.answer) built_number
+    ensures { Numbered building.door (λ o. o.answer) answered
         (building.given n count pairs.now row_offsets.old cols.old diagonal.old work.old)
         result
         (λ a. building.left a row_offsets.new cols.new diagonal.new work.new) }
 {
-    built_number(matrix_doors::pattern_from_pairs(
-        n,
-        count,
-        pairs,
-        row_offsets,
-        cols,
-        diagonal,
-        work,
-    ))
+    number(&matrix_doors::pattern_from_pairs(n, count, pairs, row_offsets, cols, diagonal, work))
 }
 
 #[unsafe(no_mangle)]
@@ -78,15 +64,21 @@ pub extern "C" fn bracket_block_index(
     col: u32,
     slot: &mut u32,
 ) -> u8
-    ensures { (result ≡ found_number (outcome (indexing.block_door col) (indexing.given n row_offsets.now cols.now diagonal.now
+    ensures { (result ≡ answered (outcome (indexing.block_door col) (indexing.given (shape n row_offsets.now cols.now diagonal.now)
         row)).answer)
         ×
-        (slot.new ≡ found_slot (outcome (indexing.block_door col) (indexing.given n row_offsets.now cols.now
-        diagonal.now row)).answer slot.old) }
+        (slot.new ≡ found_slot (outcome (indexing.block_door col) (indexing.given (shape n row_offsets.now cols.now
+        diagonal.now) row)).answer slot.old) }
 {
-    let f = matrix_doors::block_index(n, row_offsets, cols, diagonal, row, col);
-    *slot = found_slot(f, *slot);
-    found_number(f)
+    let pattern = Pattern {
+        n,
+        row_offsets,
+        cols,
+        diagonal,
+    };
+    let found = matrix_doors::block_index(&pattern, row, col);
+    *slot = found.unwrap_or(*slot);
+    number(&found)
 }
 
 #[unsafe(no_mangle)]
@@ -98,15 +90,21 @@ pub extern "C" fn bracket_diagonal_index(
     row: usize,
     slot: &mut u32,
 ) -> u8
-    ensures { (result ≡ found_number (outcome indexing.diagonal_door (indexing.given n row_offsets.now cols.now diagonal.now
+    ensures { (result ≡ answered (outcome indexing.diagonal_door (indexing.given (shape n row_offsets.now cols.now diagonal.now)
         row)).answer)
         ×
-        (slot.new ≡ found_slot (outcome indexing.diagonal_door (indexing.given n row_offsets.now cols.now
-        diagonal.now row)).answer slot.old) }
+        (slot.new ≡ found_slot (outcome indexing.diagonal_door (indexing.given (shape n row_offsets.now cols.now
+        diagonal.now) row)).answer slot.old) }
 {
-    let f = matrix_doors::diagonal_index(n, row_offsets, cols, diagonal, row);
-    *slot = found_slot(f, *slot);
-    found_number(f)
+    let pattern = Pattern {
+        n,
+        row_offsets,
+        cols,
+        diagonal,
+    };
+    let found = matrix_doors::diagonal_index(&pattern, row);
+    *slot = found.unwrap_or(*slot);
+    number(&found)
 }
 
 #[unsafe(no_mangle)]
@@ -117,11 +115,17 @@ pub extern "C" fn bracket_clear_values(
     diagonal: &[u32],
     blocks: &mut [f32],
 ) -> u8
-    ensures { Numbered clearing.door (λ o. o.answer) ran_number
-        (clearing.given n row_offsets.now cols.now diagonal.now blocks.old)
+    ensures { Numbered clearing.door (λ o. o.answer) answered
+        (clearing.given (shape n row_offsets.now cols.now diagonal.now) blocks.old)
         result (λ a. clearing.left a blocks.new) }
 {
-    ran_number(matrix_doors::clear_values(n, row_offsets, cols, diagonal, blocks))
+    let pattern = Pattern {
+        n,
+        row_offsets,
+        cols,
+        diagonal,
+    };
+    number(&matrix_doors::clear_values(&pattern, blocks))
 }
 
 #[unsafe(no_mangle)]
@@ -134,12 +138,18 @@ pub extern "C" fn bracket_mul(
     x: &[f32],
     out: &mut [f32],
 ) -> u8
-    ensures { Numbered multiplying.door (λ o. o.answer) ran_number
-        (multiplying.given n row_offsets.now cols.now diagonal.now blocks.now x.now
+    ensures { Numbered multiplying.door (λ o. o.answer) answered
+        (multiplying.given (shape n row_offsets.now cols.now diagonal.now) blocks.now x.now
         out.old)
         result (λ a. multiplying.left a out.new) }
 {
-    ran_number(matrix_doors::mul(n, row_offsets, cols, diagonal, blocks, x, out))
+    let pattern = Pattern {
+        n,
+        row_offsets,
+        cols,
+        diagonal,
+    };
+    number(&matrix_doors::mul(&pattern, blocks, x, out))
 }
 
 #[unsafe(no_mangle)]
@@ -151,11 +161,17 @@ pub extern "C" fn bracket_make_dirichlet(
     row: usize,
     blocks: &mut [f32],
 ) -> u8
-    ensures { Numbered pinning.door (λ o. o.answer) ran_number
-        (pinning.given n row_offsets.now cols.now diagonal.now row blocks.old)
+    ensures { Numbered pinning.door (λ o. o.answer) answered
+        (pinning.given (shape n row_offsets.now cols.now diagonal.now) row blocks.old)
         result (λ a. pinning.left a blocks.new) }
 {
-    ran_number(matrix_doors::make_dirichlet(n, row_offsets, cols, diagonal, row, blocks))
+    let pattern = Pattern {
+        n,
+        row_offsets,
+        cols,
+        diagonal,
+    };
+    number(&matrix_doors::make_dirichlet(&pattern, row, blocks))
 }
 
 #[unsafe(no_mangle)]
@@ -167,9 +183,15 @@ pub extern "C" fn bracket_make_dirichlet_marked(
     marks: &[u8],
     blocks: &mut [f32],
 ) -> u8
-    ensures { Numbered pinningmarked.door (λ o. o.answer) ran_number
-        (pinningmarked.given n row_offsets.now cols.now diagonal.now marks.now blocks.old)
+    ensures { Numbered pinningmarked.door (λ o. o.answer) answered
+        (pinningmarked.given (shape n row_offsets.now cols.now diagonal.now) marks.now blocks.old)
         result (λ a. pinningmarked.left a blocks.new) }
 {
-    ran_number(matrix_doors::make_dirichlet_marked(n, row_offsets, cols, diagonal, marks, blocks))
+    let pattern = Pattern {
+        n,
+        row_offsets,
+        cols,
+        diagonal,
+    };
+    number(&matrix_doors::make_dirichlet_marked(&pattern, marks, blocks))
 }

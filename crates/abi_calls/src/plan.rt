@@ -1,10 +1,13 @@
 // Planning. Answers the refusal's number, or 0; the envelope's length is then the last row start. The lists are left as the call's own promise says.
+// Numbers, lists and lent places stand one by one, and the answer is a byte: it is the C interface.
 ghost use Rattle.plan_make.specs.Plan.{four};
 ghost use Rattle.plan_make.specs.Parts.{five};
 ghost use Rattle.plan_doors.specs.Planning.{given, left, door};
-ghost use Rattle.abi_answers.specs.Numbers.{planned_number, Numbered};
+ghost use Rattle.matrix_shape.specs.Shape.{shape};
+ghost use Rattle.abi_answers.specs.Numbers.{answered, Numbered};
 
-use abi_answers::planned::planned_number;
+use abi_answers::number;
+use matrix_shape::pattern::Pattern;
 
 #[unsafe(no_mangle)]
 pub extern "C" fn bracket_plan(
@@ -22,27 +25,21 @@ pub extern "C" fn bracket_plan(
     level: &mut [u32],
     queue: &mut [u32],
 ) -> u8
-    ensures { Numbered door (λ o. o.answer) planned_number
-        (given n row_offsets.now cols.now diagonal.now (four perm.old inv_perm.old
+    ensures { Numbered door (λ o. o.answer) answered
+        (given (shape n row_offsets.now cols.now diagonal.now) (four perm.old inv_perm.old
         first.old row_start.old) (five degrees.old placed.old mark.old level.old
         queue.old))
         result
         (λ a. left a (four perm.new inv_perm.new first.new row_start.new)
         (five degrees.new placed.new mark.new level.new queue.new)) }
 {
-    planned_number(plan_doors::plan(
+    let pattern = Pattern {
         n,
         row_offsets,
         cols,
         diagonal,
-        perm,
-        inv_perm,
-        first,
-        row_start,
-        degrees,
-        placed,
-        mark,
-        level,
-        queue,
+    };
+    number(&plan_doors::plan(
+        &pattern, perm, inv_perm, first, row_start, degrees, placed, mark, level, queue,
     ))
 }

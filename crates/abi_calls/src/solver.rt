@@ -1,13 +1,17 @@
 // The direct solver. Each call answers the refusal's number, or 0; the lists are left as the call's own promise says.
+// Numbers, lists and lent places stand one by one, and the answer is a byte: it is the C interface.
 ghost use Rattle.factor_doors.specs.Factorizing as factorizing;
 ghost use Rattle.factor_doors.specs.Solving as solving;
-ghost use Rattle.abi_answers.specs.Numbers.{Numbered, Told};
+ghost use Rattle.matrix_shape.specs.Shape.{shape};
+ghost use Rattle.plan_fits.specs.Layout.{layout};
+ghost use Rattle.abi_answers.specs.Numbers.{answered, Numbered, Told};
 ghost use Rattle.abi_answers.specs.Telling.{factor};
-ghost use Rattle.abi_answers.specs.Direct.{factored_number, solved_number, places_of};
+ghost use Rattle.abi_answers.specs.Direct.{places_of};
 
-use abi_answers::factored::{
-    factored_how, factored_number, failed_pivot, failed_row, solved_number,
-};
+use abi_answers::factored::Factor;
+use abi_answers::number;
+use matrix_shape::pattern::Pattern;
+use plan_fits::plan::Plan;
 
 // Accepted, how is 0 for a whole factor and 1 for a failure; row and pivot are written by a failure alone.
 #[unsafe(no_mangle)]
@@ -26,29 +30,36 @@ pub extern "C" fn bracket_factorize(
     row: &mut usize,
     pivot: &mut f32,
 ) -> u8
-    ensures { Told factorizing.door (λ o. o.answer) factored_number places_of
-        (factorizing.given n row_offsets.now cols.now diagonal.now blocks.now perm.now
-        inv_perm.now first.now row_start.now values.old)
+    ensures { Told factorizing.door (λ o. o.answer) answered places_of
+        (factorizing.given (shape n row_offsets.now cols.now diagonal.now) blocks.now
+        (layout perm.now inv_perm.now first.now row_start.now) values.old)
         result (λ a. factorizing.left a values.new)
         (factor how.old row.old pivot.old)
         (factor how.new row.new pivot.new) }
 {
-    let f = factor_doors::factorize(
+    let pattern = Pattern {
         n,
         row_offsets,
         cols,
         diagonal,
-        blocks,
+    };
+    let plan = Plan {
         perm,
         inv_perm,
         first,
         row_start,
-        values,
-    );
-    *how = factored_how(f, *how);
-    *row = failed_row(f, *row);
-    *pivot = failed_pivot(f, *pivot);
-    factored_number(f)
+    };
+    let answer = factor_doors::factorize(&pattern, blocks, &plan, values);
+    let before = Factor {
+        how: *how,
+        row: *row,
+        pivot: *pivot,
+    };
+    let after = before.after(answer);
+    *how = after.how;
+    *row = after.row;
+    *pivot = after.pivot;
+    number(&answer)
 }
 
 #[unsafe(no_mangle)]
@@ -63,11 +74,17 @@ pub extern "C" fn bracket_solve(
     x: &mut [f32],
     scratch: &mut [f32],
 ) -> u8
-    ensures { Numbered solving.door (λ o. o.answer) solved_number
-        (solving.given n perm.now inv_perm.now first.now row_start.now values.now
+    ensures { Numbered solving.door (λ o. o.answer) answered
+        (solving.given n (layout perm.now inv_perm.now first.now row_start.now) values.now
         b.now x.old scratch.old)
         result
         (λ a. solving.left a x.new scratch.new) }
 {
-    solved_number(factor_doors::solve(n, perm, inv_perm, first, row_start, values, b, x, scratch))
+    let plan = Plan {
+        perm,
+        inv_perm,
+        first,
+        row_start,
+    };
+    number(&factor_doors::solve(n, &plan, values, b, x, scratch))
 }

@@ -1,47 +1,31 @@
-// The answer of a particle's block, which case it is, and its four numbers: 0, or 7 where the particle isn't loaded.
+// The five places that a particle's block fills: which case it is, 0, or 7 where the particle isn't loaded, and its four numbers.
 ghost use Rattle.std.specs.Prelude.{◌≡◌};
-ghost use Rattle.columns_block.specs.Said.{block_said};
-ghost use Rattle.abi_answers.specs.Telling.{how_by};
-ghost use Rattle.abi_columns_answers.specs.Blocks.{block_number, four_by};
+ghost use Rattle.abi_columns_answers.specs.Blocks.{shown_of};
 
-use columns_block::ParticleBlock;
+use law::refusal::Refusal;
+use plane::Block;
 
-pub fn block_number(b: ParticleBlock) -> u8
-    ensures { result ≡ block_number b }
-{
-    match b {
-        ParticleBlock::Refused(k) => k,
-        ParticleBlock::NotLoaded => 0,
-        ParticleBlock::Block {
-            c0x: _,
-            c0y: _,
-            c1x: _,
-            c1y: _,
-        } => 0,
-    }
+#[derive(Clone, Copy)]
+pub struct Shown {
+    pub how: u32,
+    pub block: [f32; 4],
 }
 
-pub fn block_how(b: ParticleBlock, old: u32) -> u32
-    ensures { result ≡ how_by (block_said b) old }
-{
-    match b {
-        ParticleBlock::Refused(_) => old,
-        ParticleBlock::NotLoaded => 7,
-        ParticleBlock::Block {
-            c0x: _,
-            c0y: _,
-            c1x: _,
-            c1y: _,
-        } => 0,
-    }
-}
-
-pub fn block_after(b: ParticleBlock, old: [f32; 4]) -> [f32; 4]
-    ensures { result ≡ four_by (block_said b) old }
-{
-    match b {
-        ParticleBlock::Refused(_) => old,
-        ParticleBlock::NotLoaded => [0.0, 0.0, 0.0, 0.0],
-        ParticleBlock::Block { c0x, c0y, c1x, c1y } => [c0x, c0y, c1x, c1y],
+impl Shown {
+    // What the places hold after an answer; a refusal leaves them.
+    pub fn after(self, answer: Result<Option<Block>, Refusal>) -> Shown
+        ensures { result ≡ shown_of answer self }
+    {
+        match answer {
+            Err(_) => self,
+            Ok(None) => Shown {
+                how: 7,
+                block: [0.0, 0.0, 0.0, 0.0],
+            },
+            Ok(Some(m)) => Shown {
+                how: 0,
+                block: [m[0][0], m[0][1], m[1][0], m[1][1]],
+            },
+        }
     }
 }

@@ -1,38 +1,17 @@
-// Computing's answer, and the six places that say how many of its solves ended in each way.
+// The six places that say how many of computing's solves ended in each way.
 ghost use Rattle.std.specs.Prelude.{◌≡◌};
 ghost use Rattle.columns_make.specs.Said.{computed_said};
-ghost use Rattle.abi_columns_answers.specs.Computes.{computed_number, wholes_by};
+ghost use Rattle.abi_columns_answers.specs.Computes.{wholes_by};
 
-use columns_make::Computed;
+use columns_make::Ended;
+use law::refusal::Refusal;
 
-pub fn computed_number(c: Computed) -> u8
-    ensures { result ≡ computed_number c }
+// What the places hold after an answer; a refusal leaves them.
+pub fn after(before: [u32; 6], answer: Result<Ended, Refusal>) -> [u32; 6]
+    ensures { result ≡ wholes_by (computed_said answer) before }
 {
-    match c {
-        Computed::Refused(k) => k,
-        Computed::Ended {
-            direct: _,
-            zero: _,
-            near: _,
-            converged: _,
-            curvature: _,
-            limit: _,
-        } => 0,
-    }
-}
-
-pub fn ended_after(c: Computed, old: [u32; 6]) -> [u32; 6]
-    ensures { result ≡ wholes_by (computed_said c) old }
-{
-    match c {
-        Computed::Refused(_) => old,
-        Computed::Ended {
-            direct,
-            zero,
-            near,
-            converged,
-            curvature,
-            limit,
-        } => [direct, zero, near, converged, curvature, limit],
+    match answer {
+        Err(_) => before,
+        Ok(e) => [e.direct, e.zero, e.near, e.converged, e.curvature, e.limit],
     }
 }

@@ -1,4 +1,4 @@
-// The answers of the column calls as the numbers that a C caller is told, beside crates `abi_answers` and `abi_step_answers`.
+// The answers of the column calls as the places that a C caller lends, beside crates `abi_answers` and `abi_step_answers`.
 #![tactic(auto)]
 
 pub mod block;

@@ -1,23 +1,12 @@
-// Clearing's and loading's answer, and the place for how many particles are loaded then.
+// The place for how many particles are loaded after clearing and loading.
 ghost use Rattle.std.specs.Prelude.{◌≡◌};
-ghost use Rattle.abi_columns_answers.specs.Loads.{loaded_number, loaded_after};
+ghost use Rattle.abi_columns_answers.specs.Loads.{loaded_after};
 
-use columns_table::Loaded;
+use law::refusal::Refusal;
 
-pub fn loaded_number(l: Loaded) -> u8
-    ensures { result ≡ loaded_number l }
+// What the place holds after an answer; a refusal leaves it.
+pub fn after(before: usize, answer: Result<usize, Refusal>) -> usize
+    ensures { result ≡ loaded_after answer before }
 {
-    match l {
-        Loaded::Refused(k) => k,
-        Loaded::Count(_) => 0,
-    }
-}
-
-pub fn loaded_after(l: Loaded, old: usize) -> usize
-    ensures { result ≡ loaded_after l old }
-{
-    match l {
-        Loaded::Refused(_) => old,
-        Loaded::Count(count) => count,
-    }
+    answer.unwrap_or(before)
 }

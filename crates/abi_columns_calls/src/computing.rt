@@ -1,12 +1,22 @@
 // The columns of the loaded particles, counted. Accepted, six lent places say how many of the solves ended in each way; a refusal leaves them, and
 // the tally has one refused call more.
+ghost use Rattle.matrix_shape.specs.Shape.{shape};
+ghost use Rattle.plan_fits.specs.Layout.{layout};
+ghost use Rattle.step_tally.specs.Count.{tally_of};
+ghost use Rattle.step_routes.specs.System.{system};
+ghost use Rattle.columns_table.specs.Lent.{numbering};
 ghost use Rattle.columns_make.specs.Making as making;
 ghost use Rattle.abi_answers.specs.Numbers.{Told};
-ghost use Rattle.abi_step_answers.specs.Counts.{tally_of};
 ghost use Rattle.abi_columns_answers.specs.Computes.{reckoned, reckoned_number, numbers, numbers_of};
 
+use abi_answers::number;
 use abi_columns_answers::computed;
-use abi_step_answers::counts;
+use columns_table::table::Table;
+use gradient_definition::Settings;
+use matrix_shape::pattern::Pattern;
+use plan_fits::plan::Plan;
+use step_routes::system::System;
+use step_tally::Tally;
 
 #[unsafe(no_mangle)]
 pub extern "C" fn bracket_compute_columns(
@@ -39,9 +49,10 @@ pub extern "C" fn bracket_compute_columns(
     ended: &mut [u32; 6],
 ) -> u8
     ensures { Told making.door reckoned reckoned_number numbers_of
-        (making.given n row_offsets.now cols.now diagonal.now blocks.now perm.now
-        inv_perm.now first.now row_start.now values.now factored preconditioner.now
-        tolerance max_iterations max_dense_dofs pinned.now loaded column_of.now columns.old
+        (making.given (system (shape n row_offsets.now cols.now diagonal.now) blocks.now
+        (layout perm.now inv_perm.now first.now row_start.now) values.now factored
+        preconditioner.now tolerance max_iterations max_dense_dofs)
+        (numbering pinned.now loaded column_of.now) columns.old
         rhs.old scratch.old residual.old direction.old a_direction.old z.old
         (tally_of counts.old))
         result
@@ -50,25 +61,41 @@ pub extern "C" fn bracket_compute_columns(
         (numbers counts.old ended.old)
         (numbers counts.new ended.new) }
 {
-    let made = columns_make::inner::compute_columns(
+    let pattern = Pattern {
         n,
         row_offsets,
         cols,
         diagonal,
-        blocks,
+    };
+    let plan = Plan {
         perm,
         inv_perm,
         first,
         row_start,
+    };
+    let settings = Settings {
+        tolerance,
+        max_iterations,
+    };
+    let system = System {
+        pattern,
+        blocks,
+        plan,
         values,
         factored,
         preconditioner,
-        tolerance,
-        max_iterations,
+        settings,
         max_dense_dofs,
+    };
+    let table = Table {
         pinned,
         loaded,
         column_of,
+    };
+    let mut tally = Tally::from(*counts);
+    let answer = columns_doors::compute_columns(
+        &system,
+        &table,
         columns,
         rhs,
         scratch,
@@ -76,10 +103,9 @@ pub extern "C" fn bracket_compute_columns(
         direction,
         a_direction,
         z,
-        counts::record(*counts),
+        &mut tally,
     );
-    *counts = counts::list(made.tally);
-    let answer = made.answer;
-    *ended = computed::ended_after(answer, *ended);
-    computed::computed_number(answer)
+    *counts = <[u32; 7]>::from(tally);
+    *ended = computed::after(*ended, answer);
+    number(&answer)
 }

@@ -1,28 +1,15 @@
 -- THE TALLY OVER THE C ABI: seven counts, direct, Zero, Near, Converged, Curvature,
 -- Limit and refused, in this order; and what a counted call promises over it.
-use Rattle.std.specs.Prelude.{ℕ, ◌≡◌, List, [], ◌∷◌, get_or}
+use Rattle.std.specs.Prelude.{ℕ, ◌≡◌, List}
 use Rattle.std.proofs.Common.{sym, ap, ◌∙◌}
+use Rattle.law.specs.declared.refusal.Refusal.{Refusal}
 use Rattle.law.specs.Promise.{Door, Promise, outcome, Counted}
 use Rattle.law.specs.One.{One}
 use Rattle.law.proofs.One.{comes_so}
-use Rattle.step_tally.specs.declared.Asked.{Asked}
 use Rattle.step_tally.specs.declared.Tally.{Tally}
-use Rattle.step_tally.specs.Count.{counted_of}
+use Rattle.step_tally.specs.Count.{Asked, counted_of}
+pub use Rattle.step_tally.specs.Count.{tally_of, counts_of}
 use Rattle.abi_answers.specs.Numbers.{Told, told}
-
-abbrev pub tally_of : List ℕ → Tally
-tally_of c = record {
-  direct = get_or c 0 0;
-  zero = get_or c 1 0;
-  near = get_or c 2 0;
-  converged = get_or c 3 0;
-  curvature = get_or c 4 0;
-  limit = get_or c 5 0;
-  refused = get_or c 6 0;
-}
-
-abbrev pub counts_of : Tally → List ℕ
-counts_of t = t.direct ∷ t.zero ∷ t.near ∷ t.converged ∷ t.curvature ∷ t.limit ∷ t.refused ∷ []
 
 -- r, the lists and the places are those of the door's outcome, and the counts are what its tally rule makes of them and the outcome
 pub record Tallied {I O A P : Type 0} (d : Door I O) (answer : O → A) (number : A → ℕ) (tells : A → P → P) (rule : Tally → O → Tally) (i : I) (r : ℕ)
@@ -53,7 +40,7 @@ as_counted d answer number tells rule i r left before after old counts t =
 pub of_tallied : {I O A P W : Type 0} (d : Door I O) (answer : O → A) (number : A → ℕ) (tells : A → P → P) (rule : Tally → O → Tally) (i : I)
     (num : W → ℕ) (left : W → A → O) (before : P) (after : W → P) (old : List ℕ) (counts : W → List ℕ) (back : ℕ → O → P → List ℕ → W)
     → ((r : ℕ) (p : P) (c : List ℕ) → left (back r (d.work i) p c) (answer (d.work i)) ≡ d.work i)
-    → ((k r : ℕ) (p : P) (c : List ℕ) → left (back r (d.refuse k i) p c) (answer (d.refuse k i)) ≡ d.refuse k i)
+    → ((k : Refusal) (r : ℕ) (p : P) (c : List ℕ) → left (back r (d.refuse k i) p c) (answer (d.refuse k i)) ≡ d.refuse k i)
     → ((r : ℕ) (o : O) (p : P) (c : List ℕ) → (num (back r o p c) ≡ r) × (after (back r o p c) ≡ p) × (counts (back r o p c) ≡ c))
     → ((w : W) (a : A) → back (num w) (left w a) (after w) (counts w) ≡ w)
     → One (λ (w : W). Tallied d answer number tells rule i (num w) (left w) before (after w) old (counts w))

@@ -1,51 +1,19 @@
-// The step's factor: its answer, and the three places that say whether it is whole, or where it failed.
+// The step's factor: the three places that say whether it is whole, or where it failed.
 ghost use Rattle.std.specs.Prelude.{◌≡◌};
-ghost use Rattle.step_solve.specs.Said.{marked_said};
-ghost use Rattle.abi_answers.specs.Telling.{how_by, whole_by, float_by};
-ghost use Rattle.abi_step_answers.specs.Marks.{marked_number};
+ghost use Rattle.abi_step_answers.specs.Marks.{places_of};
 
+use abi_answers::factored::Factor;
+use law::refusal::Refusal;
 use step_solve::Marked;
 
-pub fn marked_number(m: Marked) -> u8
-    ensures { result ≡ marked_number m }
+// What the places hold after an answer. Only a failure writes row and pivot; a refusal leaves all.
+pub fn after(before: Factor, answer: Result<Marked, Refusal>) -> Factor
+    ensures { result ≡ places_of answer before }
 {
-    match m {
-        Marked::Refused(k) => k,
-        Marked::Direct => 0,
-        Marked::Failed { row: _, pivot: _ } => 0,
-        Marked::Iterative => 0,
-    }
-}
-
-pub fn marked_how(m: Marked, old: u32) -> u32
-    ensures { result ≡ how_by (marked_said m) old }
-{
-    match m {
-        Marked::Refused(_) => old,
-        Marked::Direct => 0,
-        Marked::Failed { row: _, pivot: _ } => 1,
-        Marked::Iterative => 2,
-    }
-}
-
-pub fn failed_row(m: Marked, old: usize) -> usize
-    ensures { result ≡ whole_by (marked_said m) old }
-{
-    match m {
-        Marked::Refused(_) => old,
-        Marked::Direct => old,
-        Marked::Failed { row, pivot: _ } => row,
-        Marked::Iterative => old,
-    }
-}
-
-pub fn failed_pivot(m: Marked, old: f32) -> f32
-    ensures { result ≡ float_by (marked_said m) old }
-{
-    match m {
-        Marked::Refused(_) => old,
-        Marked::Direct => old,
-        Marked::Failed { row: _, pivot } => pivot,
-        Marked::Iterative => old,
+    match answer {
+        Err(_) => before,
+        Ok(Marked::Direct) => Factor { how: 0, ..before },
+        Ok(Marked::Failed { row, pivot }) => Factor { how: 1, row, pivot },
+        Ok(Marked::Iterative) => Factor { how: 2, ..before },
     }
 }

@@ -1,8 +1,9 @@
-// The step solve's answer, and the four places that say how it ended.
+// The four places that say how a step solve ended.
 ghost use Rattle.std.specs.Prelude.{◌≡◌};
-ghost use Rattle.abi_step_answers.specs.Steps.{bare_of, stepped_number, places_of};
+ghost use Rattle.abi_step_answers.specs.Steps.{bare_of, places_of};
 
 use abi_answers::ended::Places;
+use law::refusal::Refusal;
 use step_solve::Stepped;
 
 // An ending without a count and floats.
@@ -10,29 +11,20 @@ pub fn bare(how: u32) -> Places
     ensures { result ≡ bare_of how }
 {
     Places {
-        how: how,
+        how,
         count: 0,
         residual_squared: 0.0,
         denominator: 0.0,
     }
 }
 
-pub fn stepped_number(s: Stepped) -> u8
-    ensures { result ≡ stepped_number s }
+// What the places hold after an answer; a refusal leaves them.
+pub fn after(before: Places, answer: Result<Stepped, Refusal>) -> Places
+    ensures { result ≡ places_of answer before }
 {
-    match s {
-        Stepped::Refused(k) => k,
-        Stepped::Direct => 0,
-        Stepped::Iterated(_) => 0,
-    }
-}
-
-pub fn after(s: Stepped, old: Places) -> Places
-    ensures { result ≡ places_of s old }
-{
-    match s {
-        Stepped::Refused(_) => old,
-        Stepped::Direct => bare(0),
-        Stepped::Iterated(o) => abi_answers::ended::told(o),
+    match answer {
+        Err(_) => before,
+        Ok(Stepped::Direct) => bare(0),
+        Ok(Stepped::Iterated(outcome)) => Places::from(outcome),
     }
 }

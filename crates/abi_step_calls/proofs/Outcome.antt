@@ -7,7 +7,7 @@ use Rattle.step_solve.specs.Stepping as stepping
 use Rattle.step_response.specs.Responding as responding
 use Rattle.step_counts.specs.Counting.{after_step, after_response}
 use Rattle.step_doors.proofs.Outcome.{marked, stepped, responded}
-use Rattle.abi_answers.specs.Numbers.{of_told}
+use Rattle.abi_answers.specs.Numbers.{answered, of_told}
 use Rattle.abi_step_answers.specs.Counts.{of_tallied}
 use Rattle.abi_step_answers.specs.Marks as marks
 use Rattle.abi_step_answers.specs.Steps as steps
@@ -18,13 +18,13 @@ use Rattle.abi_step_calls.specs.contracts.responding.bracket_response_into as br
 
 pub one_bracket_factorize_step_matrix : OneOutcome bracket-factorize-step-matrix.ended (λ M 𝓤. bracket-factorize-step-matrix.spec)
 one_bracket_factorize_step_matrix = plainly bracket-factorize-step-matrix.ended _ (λ κs a p.
-    of_told marking.door (λ o. o.answer) marks.marked_number _ _ _ marks.places_of _ _
+    of_told marking.door (λ o. o.answer) answered _ _ _ marks.places_of _ _
     (λ r o p. (r, past 10 (o.values, (o.preconditioner, (p.how, (p.row, (p.pivot, tt))))))) (λ r p. marked _) (λ k r p. refl)
     (λ r o p. (refl, refl)) (λ w a. refl))
 
 pub one_bracket_solve_step : OneOutcome bracket-solve-step.ended (λ M 𝓤. bracket-solve-step.spec)
 one_bracket_solve_step = plainly bracket-solve-step.ended _ (λ κs a p.
-    of_tallied stepping.door (λ o. o.answer) steps.stepped_number steps.places_of after_step _ _ _ _ _ _ _
+    of_tallied stepping.door (λ o. o.answer) answered steps.places_of after_step _ _ _ _ _ _ _
     (λ r o p c. (
       r,
       past 16 (
@@ -51,7 +51,7 @@ one_bracket_solve_step = plainly bracket-solve-step.ended _ (λ κs a p.
 
 pub one_bracket_response_into : OneOutcome bracket-response-into.ended (λ M 𝓤. bracket-response-into.spec)
 one_bracket_response_into = plainly bracket-response-into.ended _ (λ κs a p.
-    of_tallied responding.door (λ o. o.answer) responses.responded_number responses.gained_of after_response _ _ _ _ _ _ _
+    of_tallied responding.door (λ o. o.answer) answered responses.gained_of after_response _ _ _ _ _ _ _
     (λ r o p c. (
       r,
       past 19 (

@@ -1,11 +1,17 @@
 // The step's factor. Accepted, how is 0 for a whole factor, whose mark is set, 1 for a failure,
 // and 2 where the step is iterated; row and pivot are written by a failure alone.
+ghost use Rattle.matrix_shape.specs.Shape.{shape};
+ghost use Rattle.plan_fits.specs.Layout.{layout};
 ghost use Rattle.step_solve.specs.Marking as marking;
-ghost use Rattle.abi_answers.specs.Numbers.{Told};
+ghost use Rattle.abi_answers.specs.Numbers.{answered, Told};
 ghost use Rattle.abi_answers.specs.Telling.{factor};
-ghost use Rattle.abi_step_answers.specs.Marks.{marked_number, places_of};
+ghost use Rattle.abi_step_answers.specs.Marks.{places_of};
 
+use abi_answers::factored::Factor;
+use abi_answers::number;
 use abi_step_answers::marked;
+use matrix_shape::pattern::Pattern;
+use plan_fits::plan::Plan;
 
 #[unsafe(no_mangle)]
 pub extern "C" fn bracket_factorize_step_matrix(
@@ -25,31 +31,43 @@ pub extern "C" fn bracket_factorize_step_matrix(
     row: &mut usize,
     pivot: &mut f32,
 ) -> u8
-    ensures { Told marking.door (λ o. o.answer) marked_number places_of
-        (marking.given n row_offsets.now cols.now diagonal.now blocks.now perm.now
-        inv_perm.now first.now row_start.now max_dense_dofs values.old
+    ensures { Told marking.door (λ o. o.answer) answered places_of
+        (marking.given (shape n row_offsets.now cols.now diagonal.now) blocks.now
+        (layout perm.now inv_perm.now first.now row_start.now) max_dense_dofs values.old
         preconditioner.old)
         result
         (λ a. marking.left a values.new preconditioner.new)
         (factor how.old row.old pivot.old)
         (factor how.new row.new pivot.new) }
 {
-    let m = step_doors::factorize_step_matrix(
+    let pattern = Pattern {
         n,
         row_offsets,
         cols,
         diagonal,
-        blocks,
+    };
+    let plan = Plan {
         perm,
         inv_perm,
         first,
         row_start,
+    };
+    let answer = step_doors::factorize_step_matrix(
+        &pattern,
+        blocks,
+        &plan,
         max_dense_dofs,
         values,
         preconditioner,
     );
-    *how = marked::marked_how(m, *how);
-    *row = marked::failed_row(m, *row);
-    *pivot = marked::failed_pivot(m, *pivot);
-    marked::marked_number(m)
+    let before = Factor {
+        how: *how,
+        row: *row,
+        pivot: *pivot,
+    };
+    let after = marked::after(before, answer);
+    *how = after.how;
+    *row = after.row;
+    *pivot = after.pivot;
+    number(&answer)
 }

@@ -1,13 +1,22 @@
 // The step solve, counted. Accepted, four lent places tell how it ended: 0 for the factor,
 // with no count and no floats, or the outcome's number; a refusal leaves them.
+ghost use Rattle.matrix_shape.specs.Shape.{shape};
+ghost use Rattle.plan_fits.specs.Layout.{layout};
+ghost use Rattle.step_routes.specs.System.{system};
 ghost use Rattle.step_solve.specs.Stepping as stepping;
 ghost use Rattle.step_counts.specs.Counting.{after_step};
+ghost use Rattle.abi_answers.specs.Numbers.{answered};
 ghost use Rattle.abi_answers.specs.Telling.{places};
 ghost use Rattle.abi_step_answers.specs.Counts.{Tallied};
-ghost use Rattle.abi_step_answers.specs.Steps.{stepped_number, places_of};
+ghost use Rattle.abi_step_answers.specs.Steps.{places_of};
 
 use abi_answers::ended::Places;
+use abi_answers::number;
 use abi_step_answers::{counts, stepped};
+use gradient_definition::Settings;
+use matrix_shape::pattern::Pattern;
+use plan_fits::plan::Plan;
+use step_routes::system::System;
 
 #[unsafe(no_mangle)]
 pub extern "C" fn bracket_solve_step(
@@ -39,11 +48,12 @@ pub extern "C" fn bracket_solve_step(
     residual_squared: &mut f32,
     denominator: &mut f32,
 ) -> u8
-    ensures { Tallied stepping.door (λ o. o.answer) stepped_number places_of after_step
-        (stepping.given n row_offsets.now cols.now diagonal.now blocks.now perm.now
-        inv_perm.now first.now row_start.now values.now factored preconditioner.now
-        b.now tolerance max_iterations max_dense_dofs x.old scratch.old residual.old
-        direction.old a_direction.old z.old)
+    ensures { Tallied stepping.door (λ o. o.answer) answered places_of after_step
+        (stepping.given
+        (system (shape n row_offsets.now cols.now diagonal.now) blocks.now
+        (layout perm.now inv_perm.now first.now row_start.now) values.now factored
+        preconditioner.now tolerance max_iterations max_dense_dofs)
+        b.now x.old scratch.old residual.old direction.old a_direction.old z.old)
         result
         (λ a. stepping.left a x.new scratch.new residual.new direction.new a_direction.new
         z.new)
@@ -51,23 +61,35 @@ pub extern "C" fn bracket_solve_step(
         (places how.new count.new residual_squared.new denominator.new)
         counts.old counts.new }
 {
-    let s = step_solve::inner::solve_step(
+    let pattern = Pattern {
         n,
         row_offsets,
         cols,
         diagonal,
-        blocks,
+    };
+    let plan = Plan {
         perm,
         inv_perm,
         first,
         row_start,
+    };
+    let settings = Settings {
+        tolerance,
+        max_iterations,
+    };
+    let system = System {
+        pattern,
+        blocks,
+        plan,
         values,
         factored,
         preconditioner,
-        b,
-        tolerance,
-        max_iterations,
+        settings,
         max_dense_dofs,
+    };
+    let answer = step_solve::inner::solve_step(
+        &system,
+        b,
         x,
         scratch,
         residual,
@@ -75,19 +97,17 @@ pub extern "C" fn bracket_solve_step(
         a_direction,
         z,
     );
-    *counts = counts::counted(*counts, step_counts::asked::by_step(s));
-    let p = stepped::after(
-        s,
-        Places {
-            how: *how,
-            count: *count,
-            residual_squared: *residual_squared,
-            denominator: *denominator,
-        },
-    );
-    *how = p.how;
-    *count = p.count;
-    *residual_squared = p.residual_squared;
-    *denominator = p.denominator;
-    stepped::stepped_number(s)
+    *counts = counts::counted(*counts, step_counts::asked::by_step(answer));
+    let before = Places {
+        how: *how,
+        count: *count,
+        residual_squared: *residual_squared,
+        denominator: *denominator,
+    };
+    let after = stepped::after(before, answer);
+    *how = after.how;
+    *count = after.count;
+    *residual_squared = after.residual_squared;
+    *denominator = after.denominator;
+    number(&answer)
 }

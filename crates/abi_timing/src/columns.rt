@@ -1,11 +1,52 @@
 // For measuring only, like measured.rt: the work on columns. The places are filled as the C calls fill them.
+ghost use Rattle.matrix_shape.specs.Shape.{shape};
+ghost use Rattle.plan_fits.specs.Layout.{layout};
+ghost use Rattle.step_tally.specs.Count.{tally_of};
+ghost use Rattle.step_routes.specs.System.{system};
+ghost use Rattle.step_entries.specs.Lent.{entered};
+ghost use Rattle.columns_table.specs.Lent.{numbering};
 ghost use Rattle.columns_make.specs.Making as making;
 ghost use Rattle.columns_combine.specs.Combining as combining;
 ghost use Rattle.columns_block.specs.Blocking as blocking;
-ghost use Rattle.abi_step_answers.specs.Counts.{tally_of};
 
-use abi_columns_answers::{block, combined, computed};
-use abi_step_answers::counts;
+use columns_combine::Combined;
+use columns_make::Ended;
+use columns_table::table::Table;
+use gradient_definition::Settings;
+use matrix_shape::pattern::Pattern;
+use plan_fits::plan::Plan;
+use plane::Block;
+use step_entries::entries::Entries;
+use step_routes::system::System;
+use step_tally::Tally;
+
+fn endings(ended: Ended) -> [u32; 6] {
+    [
+        ended.direct,
+        ended.zero,
+        ended.near,
+        ended.converged,
+        ended.curvature,
+        ended.limit,
+    ]
+}
+
+// The gain, and which case it is.
+fn told(combined: Combined) -> (f32, u32) {
+    match combined {
+        Combined::Gain(gain) => (gain, 0),
+        Combined::Nothing => (0.0, 6),
+        Combined::NotLoaded => (0.0, 7),
+    }
+}
+
+// Which case it is, and the block's four numbers.
+fn numbers(block: Option<Block>) -> (u32, [f32; 4]) {
+    match block {
+        Some(m) => (0, [m[0][0], m[0][1], m[1][0], m[1][1]]),
+        None => (7, [0.0, 0.0, 0.0, 0.0]),
+    }
+}
 
 #[unsafe(no_mangle)]
 pub extern "C" fn inside_compute_columns(
@@ -38,29 +79,43 @@ pub extern "C" fn inside_compute_columns(
     ended: &mut [u32; 6],
 )
     requires { making.Ready
-        (making.given n row_offsets.now cols.now diagonal.now blocks.now perm.now inv_perm.now first.now row_start.now
-        values.now factored preconditioner.now tolerance max_iterations max_dense_dofs pinned.now loaded column_of.now columns.old
+        (making.given (system (shape n row_offsets.now cols.now diagonal.now) blocks.now
+        (layout perm.now inv_perm.now first.now row_start.now) values.now factored preconditioner.now tolerance max_iterations
+        max_dense_dofs) (numbering pinned.now loaded column_of.now) columns.old
         rhs.old scratch.old residual.old direction.old a_direction.old z.old (tally_of counts.old)) }
 {
-    let made = columns_make::front::compute(
-        n,
-        row_offsets,
-        cols,
-        diagonal,
+    let system = System {
+        pattern: Pattern {
+            n,
+            row_offsets,
+            cols,
+            diagonal,
+        },
         blocks,
-        perm,
-        inv_perm,
-        first,
-        row_start,
+        plan: Plan {
+            perm,
+            inv_perm,
+            first,
+            row_start,
+        },
         values,
         factored,
         preconditioner,
-        tolerance,
-        max_iterations,
+        settings: Settings {
+            tolerance,
+            max_iterations,
+        },
         max_dense_dofs,
+    };
+    let table = Table {
         pinned,
         loaded,
         column_of,
+    };
+    let mut tally = Tally::from(*counts);
+    let made = columns_make::front::compute(
+        &system,
+        &table,
         columns,
         rhs,
         scratch,
@@ -68,11 +123,10 @@ pub extern "C" fn inside_compute_columns(
         direction,
         a_direction,
         z,
-        counts::record(*counts),
+        &mut tally,
     );
-    *counts = counts::list(made.tally);
-    let answer = made.answer;
-    *ended = computed::ended_after(answer, *ended);
+    *counts = <[u32; 7]>::from(tally);
+    *ended = endings(made);
 }
 
 #[unsafe(no_mangle)]
@@ -90,13 +144,21 @@ pub extern "C" fn inside_response_from_columns(
     how: &mut u32,
 )
     requires { combining.Ready
-        (combining.given n pinned.now loaded column_of.now columns.now entries particles.now gradients.now out.old) }
+        (combining.given n (numbering pinned.now loaded column_of.now) columns.now (entered entries particles.now gradients.now) out.old) }
 {
-    let c = columns_combine::combine::combine(
-        n, pinned, loaded, column_of, columns, entries, particles, gradients, out,
-    );
-    *gain = combined::combined_gain(c, *gain);
-    *how = combined::combined_how(c, *how);
+    let table = Table {
+        pinned,
+        loaded,
+        column_of,
+    };
+    let listed = Entries {
+        count: entries,
+        particles,
+        gradients,
+    };
+    let (sum, case) = told(columns_combine::combine::combine(n, &table, columns, &listed, out));
+    *gain = sum;
+    *how = case;
 }
 
 #[unsafe(no_mangle)]
@@ -111,9 +173,14 @@ pub extern "C" fn inside_particle_block(
     how: &mut u32,
     block: &mut [f32; 4],
 )
-    requires { blocking.Ready (blocking.given n pinned.now loaded column_of.now columns.now particle out.old) }
+    requires { blocking.Ready (blocking.given n (numbering pinned.now loaded column_of.now) columns.now particle out.old) }
 {
-    let b = columns_block::block::block(n, pinned, loaded, column_of, columns, particle, out);
-    *how = block::block_how(b, *how);
-    *block = block::block_after(b, *block);
+    let table = Table {
+        pinned,
+        loaded,
+        column_of,
+    };
+    let (case, four) = numbers(columns_block::block::block(n, &table, columns, particle, out));
+    *how = case;
+    *block = four;
 }

@@ -2,7 +2,8 @@
 // require what the doors test, so nothing but the comparison calls them, on input that the doors have accepted.
 ghost use Rattle.std.specs.Prelude.{◌≡◌, ◌*◌, ◌≤◌, ◌<◌, length};
 ghost use Rattle.law.specs.Limit.{particles};
-ghost use Rattle.matrix_shape.specs.Rows.{at, Held, Rows, Pattern};
+ghost use Rattle.matrix_shape.specs.Rows.{at, Held, Rows};
+ghost use Rattle.matrix_shape.specs.Shape.{shape, IsPattern};
 ghost use Rattle.matrix_shape.specs.Index.{Line};
 ghost use Rattle.matrix_build.specs.Build.{Ready};
 ghost use Rattle.matrix_pinned.specs.Marked.{Reach};
@@ -12,7 +13,9 @@ ghost use Rattle.gradient_definition.specs.Vectors.{Matrix};
 ghost use Rattle.gradient_definition.specs.Solve.{Sized};
 ghost use Rattle.gradient_definition.specs.Inverse.{Slots};
 
-use gradient_definition::Outcome;
+use gradient_definition::{Outcome, Settings};
+use matrix_shape::pattern::Pattern;
+use order_search::graph::Graph;
 
 #[unsafe(no_mangle)]
 pub extern "C" fn inside_build(
@@ -39,7 +42,13 @@ pub extern "C" fn inside_well_formed(
 ) -> bool
     requires { (n ≤ particles) × Held n m row_offsets.now cols.now diagonal.now }
 {
-    matrix_test::formed::well_formed(n, m, row_offsets, cols, diagonal)
+    let pattern = Pattern {
+        n,
+        row_offsets,
+        cols,
+        diagonal,
+    };
+    matrix_test::formed::well_formed(&pattern, m)
 }
 
 #[unsafe(no_mangle)]
@@ -61,7 +70,13 @@ pub extern "C" fn inside_mul(
     requires rows { Rows n row_offsets.now cols.now }
     requires n_in_bounds { (4 * at row_offsets.now n ≤ length blocks.now) × (2 * n ≤ length x.now) × (2 * n ≤ length out.old) }
 {
-    matrix_values::inner::mul(n, row_offsets, cols, blocks, x, out)
+    let pattern = Pattern {
+        n,
+        row_offsets,
+        cols,
+        diagonal: &[],
+    };
+    matrix_values::inner::mul(&pattern, blocks, x, out)
 }
 
 #[unsafe(no_mangle)]
@@ -73,11 +88,17 @@ pub extern "C" fn inside_make_dirichlet(
     row: usize,
     blocks: &mut [f32],
 )
-    requires pattern { Pattern n row_offsets.now cols.now diagonal.now }
+    requires pattern { IsPattern (shape n row_offsets.now cols.now diagonal.now) }
     requires row_lt_n { row < n }
     requires n_in_bounds { 4 * at row_offsets.now n ≤ length blocks.old }
 {
-    matrix_pinned::pinned::make_dirichlet(n, row_offsets, cols, diagonal, row, blocks)
+    let pattern = Pattern {
+        n,
+        row_offsets,
+        cols,
+        diagonal,
+    };
+    matrix_pinned::pinned::make_dirichlet(&pattern, row, blocks)
 }
 
 #[unsafe(no_mangle)]
@@ -91,7 +112,13 @@ pub extern "C" fn inside_make_dirichlet_marked(
 )
     requires { Reach n row_offsets.now cols.now diagonal.now marks.now blocks.old }
 {
-    matrix_pinned::marked::make_dirichlet_marked(n, row_offsets, cols, diagonal, marks, blocks)
+    let pattern = Pattern {
+        n,
+        row_offsets,
+        cols,
+        diagonal,
+    };
+    matrix_pinned::marked::make_dirichlet_marked(&pattern, marks, blocks)
 }
 
 #[unsafe(no_mangle)]
@@ -112,18 +139,14 @@ pub extern "C" fn inside_plan(
         (Room (length perm.old) (four perm.old inv_perm.old first.old row_start.old)
         × Desk (length perm.old) (five degrees.old placed.old mark.old level.old queue.old)) }
 {
-    plan_make::inner::plan(
+    let n = perm.len();
+    let graph = Graph {
+        n,
         row_offsets,
         cols,
-        perm,
-        inv_perm,
-        first,
-        row_start,
-        degrees,
-        placed,
-        mark,
-        level,
-        queue,
+    };
+    plan_make::inner::plan(
+        &graph, perm, inv_perm, first, row_start, degrees, placed, mark, level, queue,
     )
 }
 
@@ -137,29 +160,22 @@ pub extern "C" fn inside_update_preconditioner(
     requires slots { Slots n diagonal.now blocks.now }
     requires n_in_bounds { 4 * n ≤ length preconditioner.old }
 {
-    gradient_preconditioner::inner::update_preconditioner(n, diagonal, blocks, preconditioner)
+    let pattern = Pattern {
+        n,
+        row_offsets: &[],
+        cols: &[],
+        diagonal,
+    };
+    gradient_preconditioner::inner::update_preconditioner(&pattern, blocks, preconditioner)
 }
 
 fn turns(o: Outcome) -> usize {
     match o {
-        Outcome::Zero { count: k } => k,
-        Outcome::Near {
-            count: k,
-            residual: _,
-        } => k,
-        Outcome::Converged {
-            count: k,
-            residual: _,
-        } => k,
-        Outcome::Curvature {
-            count: k,
-            residual: _,
-            denominator: _,
-        } => k,
-        Outcome::Limit {
-            count: k,
-            residual: _,
-        } => k,
+        Outcome::Zero { count }
+        | Outcome::Near { count, .. }
+        | Outcome::Converged { count, .. }
+        | Outcome::Curvature { count, .. }
+        | Outcome::Limit { count, .. } => count,
     }
 }
 
@@ -184,15 +200,22 @@ pub extern "C" fn inside_conjugate_gradient(
     requires sized { Sized n preconditioner.now x.old residual.old direction.old a_direction.old z.old }
     requires n_in_bounds { 2 * n ≤ length b.now }
 {
-    turns(gradient_solve::inner::solve(
+    let pattern = Pattern {
         n,
         row_offsets,
         cols,
+        diagonal: &[],
+    };
+    let settings = Settings {
+        tolerance,
+        max_iterations: limit,
+    };
+    turns(gradient_solve::inner::solve(
+        &pattern,
         blocks,
         preconditioner,
         b,
-        tolerance,
-        limit,
+        settings,
         x,
         residual,
         direction,

@@ -1,8 +1,11 @@
 // For measuring only, like measured.rt: the direct solver's work.
 ghost use Rattle.std.specs.Prelude.{◌≡◌, ◌*◌, ◌≤◌, length};
 ghost use Rattle.matrix_shape.specs.Rows.{at};
-ghost use Rattle.plan_fits.specs.Lists.{Plan};
+ghost use Rattle.plan_fits.specs.Layout.{layout, IsPlan};
 ghost use Rattle.factor_load.specs.Load.{Loads};
+
+use matrix_shape::pattern::Pattern;
+use plan_fits::plan::Plan;
 
 #[unsafe(no_mangle)]
 pub extern "C" fn inside_factorize(
@@ -18,20 +21,19 @@ pub extern "C" fn inside_factorize(
     requires loads { Loads n row_offsets.now cols.now blocks.now inv_perm.now first.now row_start.now }
     requires values_len { length values.old ≡ at row_start.now (2 * n) }
 {
-    let how = factor_make::inner::factorize_matrix(
+    let pattern = Pattern {
         n,
         row_offsets,
         cols,
-        blocks,
+        diagonal: &[],
+    };
+    let plan = Plan {
+        perm: &[],
         inv_perm,
         first,
         row_start,
-        values,
-    );
-    match how {
-        factor_make::Factored::Done => true,
-        factor_make::Factored::Failed { row: _, pivot: _ } => false,
-    }
+    };
+    factor_make::inner::factorize_matrix(&pattern, blocks, &plan, values).is_ok()
 }
 
 #[unsafe(no_mangle)]
@@ -46,9 +48,15 @@ pub extern "C" fn inside_solve(
     x: &mut [f32],
     scratch: &mut [f32],
 )
-    requires plan { Plan n perm.now inv_perm.now first.now row_start.now }
+    requires plan { IsPlan n (layout perm.now inv_perm.now first.now row_start.now) }
     requires n_in_bounds { (at row_start.now (2 * n) ≤ length values.now) × (2 * n ≤ length b.now) }
     requires x_len { (length x.old ≡ 2 * n) × (length scratch.old ≡ 2 * n) }
 {
-    factor_substitution::inner::solve(n, perm, inv_perm, first, row_start, values, b, x, scratch)
+    let plan = Plan {
+        perm,
+        inv_perm,
+        first,
+        row_start,
+    };
+    factor_substitution::inner::solve(n, &plan, values, b, x, scratch)
 }

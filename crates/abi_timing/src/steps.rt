@@ -1,8 +1,17 @@
 // For measuring only, like measured.rt: the step's work.
+ghost use Rattle.matrix_shape.specs.Shape.{shape};
+ghost use Rattle.plan_fits.specs.Layout.{layout};
+ghost use Rattle.step_routes.specs.System.{system};
+ghost use Rattle.step_entries.specs.Lent.{entered};
 ghost use Rattle.step_solve.specs.Stepping as stepping;
 ghost use Rattle.step_response.specs.Responding as responding;
 
+use gradient_definition::Settings;
+use matrix_shape::pattern::Pattern;
+use plan_fits::plan::Plan;
+use step_entries::entries::Entries;
 use step_response::Responded;
+use step_routes::system::System;
 use step_solve::Stepped;
 
 // Answers whether it was the factor's route.
@@ -32,27 +41,36 @@ pub extern "C" fn inside_step_route(
     z: &mut [f32],
 ) -> bool
     requires { stepping.Ready
-        (stepping.given n row_offsets.now cols.now diagonal.now blocks.now perm.now inv_perm.now first.now row_start.now
-        values.now factored preconditioner.now b.now tolerance max_iterations max_dense_dofs x.old scratch.old residual.old
-        direction.old a_direction.old z.old) }
+        (stepping.given (system (shape n row_offsets.now cols.now diagonal.now) blocks.now
+        (layout perm.now inv_perm.now first.now row_start.now) values.now factored preconditioner.now tolerance max_iterations
+        max_dense_dofs) b.now x.old scratch.old residual.old direction.old a_direction.old z.old) }
 {
-    let s = step_solve::front::route(
-        n,
-        row_offsets,
-        cols,
-        diagonal,
+    let system = System {
+        pattern: Pattern {
+            n,
+            row_offsets,
+            cols,
+            diagonal,
+        },
         blocks,
-        perm,
-        inv_perm,
-        first,
-        row_start,
+        plan: Plan {
+            perm,
+            inv_perm,
+            first,
+            row_start,
+        },
         values,
         factored,
         preconditioner,
-        b,
-        tolerance,
-        max_iterations,
+        settings: Settings {
+            tolerance,
+            max_iterations,
+        },
         max_dense_dofs,
+    };
+    let stepped = step_solve::front::route(
+        &system,
+        b,
         x,
         scratch,
         residual,
@@ -60,8 +78,7 @@ pub extern "C" fn inside_step_route(
         a_direction,
         z,
     );
-    match s {
-        Stepped::Refused(_) => false,
+    match stepped {
         Stepped::Direct => true,
         Stepped::Iterated(_) => false,
     }
@@ -69,10 +86,8 @@ pub extern "C" fn inside_step_route(
 
 fn gain_of(r: Responded) -> f32 {
     match r {
-        Responded::Refused(_) => 0.0,
         Responded::Nothing => 0.0,
-        Responded::Direct { gain } => gain,
-        Responded::Iterated { gain, how: _ } => gain,
+        Responded::Direct { gain } | Responded::Iterated { gain, .. } => gain,
     }
 }
 
@@ -107,30 +122,43 @@ pub extern "C" fn inside_respond(
     z: &mut [f32],
 ) -> f32
     requires { responding.Ready
-        (responding.given n row_offsets.now cols.now diagonal.now blocks.now perm.now inv_perm.now first.now row_start.now
-        values.now factored preconditioner.now tolerance max_iterations max_dense_dofs pinned.now entries particles.now gradients.now
-        out.old rhs.old scratch.old residual.old direction.old a_direction.old z.old) }
+        (responding.given (system (shape n row_offsets.now cols.now diagonal.now) blocks.now
+        (layout perm.now inv_perm.now first.now row_start.now) values.now factored preconditioner.now tolerance max_iterations
+        max_dense_dofs) pinned.now (entered entries particles.now gradients.now) out.old rhs.old scratch.old residual.old
+        direction.old a_direction.old z.old) }
 {
-    gain_of(step_response::front::respond(
-        n,
-        row_offsets,
-        cols,
-        diagonal,
+    let system = System {
+        pattern: Pattern {
+            n,
+            row_offsets,
+            cols,
+            diagonal,
+        },
         blocks,
-        perm,
-        inv_perm,
-        first,
-        row_start,
+        plan: Plan {
+            perm,
+            inv_perm,
+            first,
+            row_start,
+        },
         values,
         factored,
         preconditioner,
-        tolerance,
-        max_iterations,
+        settings: Settings {
+            tolerance,
+            max_iterations,
+        },
         max_dense_dofs,
-        pinned,
-        entries,
+    };
+    let listed = Entries {
+        count: entries,
         particles,
         gradients,
+    };
+    gain_of(step_response::front::respond(
+        &system,
+        pinned,
+        &listed,
         out,
         rhs,
         scratch,

@@ -1,14 +1,14 @@
-// The bench program's answer to a text. THE DOOR `answer` refuses by the text's own number, or writes the lines of its plan.
+// The bench program's answer to a text. THE DOOR `answer` refuses by the text's own refusal, or writes the lines of its plan.
 #![tactic(auto)]
 
 ghost use Rattle.bench_answer.specs.Answering.{left, Answers};
 
-use bench_answer::Answered;
+use law::refusal::Refusal;
 
 mod session;
 
-// The lists are here, each as long as the limits ask, and nothing else.
-pub fn answer(text: &[u8], out: &mut [u8]) -> Answered
+// The lists are here, each as long as the limits ask, and nothing else: arrays, since the project uses no heap.
+pub fn answer(text: &[u8], out: &mut [u8]) -> Result<usize, Refusal>
     ensures { Answers text.now out.old (left result out.new) }
 {
     let mut numbers = [0u32; 8192];

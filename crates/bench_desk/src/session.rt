@@ -1,4 +1,5 @@
 // From a text over its pairs to the lines of their plan. Nothing is written before nothing is refused.
+// The lists that are written stay parameters: of a struct of them each clause would have to say that its fields keep their references.
 ghost use Rattle.std.specs.Prelude.{◌≡◌, ◌*◌, ◌≤◌, length};
 ghost use Rattle.law.specs.Limit.{particles};
 ghost use Rattle.law.specs.Promise.{Promise};
@@ -6,14 +7,12 @@ ghost use Rattle.bench_plan.specs.Built.{Counted, Sheet};
 ghost use Rattle.bench_plan.specs.Read.{numbers_room};
 ghost use Rattle.bench_answer.specs.Answering.{given, left, answering, Answers};
 
-use bench_answer::Answered;
-use bench_plan::inner::Drafted;
-use bench_text::inner::Input;
+use bench_text::inner::Counts;
+use law::refusal::{Refusal, ensure};
 
 // Room for the lines of n particles, ten digits to a number, is asked for before the pairs are looked at.
 fn answer_pairs(
-    n: usize,
-    count: usize,
+    counts: Counts,
     pairs: &[u32],
     row_offsets: &mut [u32],
     cols: &mut [u32],
@@ -22,17 +21,14 @@ fn answer_pairs(
     order: &mut [u32],
     first: &mut [u32],
     out: &mut [u8],
-) -> Answered
-    requires { Counted n count pairs.now ×
+) -> Result<usize, Refusal>
+    requires { Counted counts.n counts.pairs pairs.now ×
         (Sheet row_offsets.old cols.old diagonal.old work.old order.old × (2 * particles ≤ length first.old)) }
-    ensures { Promise answering (given n count pairs.now out.old) (left result out.new) }
+    ensures { Promise answering (given counts.n counts.pairs pairs.now out.old) (left result out.new) }
 {
-    if out.len() < 26 + 11 * n {
-        return Answered::Refused(law::refusal::SHORT_BUFFER);
-    }
-    let came = bench_plan::inner::from_pairs(
-        n,
-        count,
+    ensure(26 + 11 * counts.n <= out.len(), Refusal::ShortBuffer)?;
+    let draft = bench_plan::inner::from_pairs(
+        counts,
         pairs,
         row_offsets,
         cols,
@@ -40,14 +36,8 @@ fn answer_pairs(
         work,
         order,
         first,
-    );
-    match came {
-        Drafted::Refused(k) => Answered::Refused(k),
-        Drafted::Done(_, len) => {
-            let k = bench_print::inner::write_plan(len, &order[..n], out);
-            Answered::Done(k)
-        }
-    }
+    )?;
+    Ok(bench_print::inner::write_plan(draft.envelope, &order[..draft.n], out))
 }
 
 // Reads the text, whose pairs then decide.
@@ -61,28 +51,22 @@ pub fn answer_text(
     order: &mut [u32],
     first: &mut [u32],
     out: &mut [u8],
-) -> Answered
+) -> Result<usize, Refusal>
     requires { (length numbers.old ≡ numbers_room) ×
         (Sheet row_offsets.old cols.old diagonal.old work.old order.old × (2 * particles ≤ length first.old)) }
     ensures { Answers text.now out.old (left result out.new) }
 {
-    let input = bench_text::inner::read(text, numbers);
-    match input {
-        Input::Refused(k) => Answered::Refused(k),
-        Input::Text { n, pairs } => {
-            let m = 2 * pairs;
-            answer_pairs(
-                n,
-                pairs,
-                &numbers[..m],
-                row_offsets,
-                cols,
-                diagonal,
-                work,
-                order,
-                first,
-                out,
-            )
-        }
-    }
+    let counts = bench_text::inner::read(text, numbers)?;
+    let m = 2 * counts.pairs;
+    answer_pairs(
+        counts,
+        &numbers[..m],
+        row_offsets,
+        cols,
+        diagonal,
+        work,
+        order,
+        first,
+        out,
+    )
 }

@@ -2,3 +2,4 @@ pub mod Pixels
 pub mod Ready
 pub mod Panels
 pub mod Shown
+pub mod Drawing

@@ -2,5 +2,6 @@
 // and each of its lines. All of it asks for room, so there is no door here.
 #![tactic(auto)]
 
+pub mod drawing;
 pub mod inner;
 mod pixels;

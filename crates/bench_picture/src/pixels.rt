@@ -3,8 +3,11 @@ ghost use Rattle.std.specs.Prelude.{◌≡◌, ◌*◌, ◌<◌};
 ghost use Rattle.matrix_shape.specs.Formed.{stored};
 ghost use Rattle.matrix_shape.specs.Index.{Line};
 ghost use Rattle.matrix_shape.specs.Rows.{at};
-ghost use Rattle.bench_picture.specs.Pixels.{scene, hatched, after, pixel, width, digit};
+ghost use Rattle.bench_picture.specs.Pixels.{hatched, after, pixel, width, digit};
+ghost use Rattle.bench_picture.specs.Drawing.{scene_of};
 ghost use Rattle.bench_picture.specs.Ready.{Ready};
+
+use crate::drawing::Drawing;
 
 // Whether row `row` stores the column.
 fn has(row_offsets: &[u32], cols: &[u32], row: usize, col: u32) -> bool
@@ -25,44 +28,28 @@ fn hatch(first: usize, i: usize, j: usize) -> bool
 }
 
 // A pixel of the right panel.
-fn ordered(
-    n: usize,
-    row_offsets: &[u32],
-    cols: &[u32],
-    order: &[u32],
-    first: &[u32],
-    i: usize,
-    j: usize,
-) -> bool
-    requires { Ready (scene n row_offsets.now cols.now order.now first.now) × ((i < 2 * n) × (j < 2 * n)) }
-    ensures { result ≡ after (scene n row_offsets.now cols.now order.now first.now) i j }
+fn ordered(drawing: &Drawing, i: usize, j: usize) -> bool
+    requires { Ready (scene_of drawing.now) × ((i < 2 * drawing.now.n) × (j < 2 * drawing.now.n)) }
+    ensures { result ≡ after (scene_of drawing.now) i j }
 {
-    let row = law::wide(order[i / 2]);
-    let stands = has(row_offsets, cols, row, order[j / 2]);
-    stands | hatch(law::wide(first[i]), i, j)
+    let row = law::wide(drawing.order[i / 2]);
+    let stands = has(drawing.row_offsets, drawing.cols, row, drawing.order[j / 2]);
+    stands | hatch(law::wide(drawing.first[i]), i, j)
 }
 
 // The pixel at column k of line i.
-pub fn pixel(
-    n: usize,
-    row_offsets: &[u32],
-    cols: &[u32],
-    order: &[u32],
-    first: &[u32],
-    i: usize,
-    k: usize,
-) -> bool
-    requires { Ready (scene n row_offsets.now cols.now order.now first.now) × ((i < 2 * n) × (k < width n)) }
-    ensures { result ≡ pixel (scene n row_offsets.now cols.now order.now first.now) i k }
+pub fn pixel(drawing: &Drawing, i: usize, k: usize) -> bool
+    requires { Ready (scene_of drawing.now) × ((i < 2 * drawing.now.n) × (k < width drawing.now.n)) }
+    ensures { result ≡ pixel (scene_of drawing.now) i k }
 {
-    let side = 2 * n;
+    let side = 2 * drawing.n;
     if k < side {
-        return has(row_offsets, cols, i / 2, (k / 2) as u32);
+        return has(drawing.row_offsets, drawing.cols, i / 2, (k / 2) as u32);
     }
     if k == side {
         return false;
     }
-    ordered(n, row_offsets, cols, order, first, i, k - (side + 1))
+    ordered(drawing, i, k - (side + 1))
 }
 
 // A black pixel is a 1.

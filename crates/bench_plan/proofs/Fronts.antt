@@ -1,10 +1,11 @@
 -- What follows of specs/Fronts.antt: its theorems, apart from the definitions.
 use Prim.Native.Nat.{ℕ, ◌+◌, ◌*◌, ◌≤◌, ◌<◌}
 use Rattle.std.proofs.Math.Path.{◌≡◌, refl, ap}
-use Rattle.std.proofs.Common.{sym, ◌∙◌, arith}
-use Rattle.std.specs.Prelude.{Bool, false, cond, length}
+use Rattle.std.proofs.Common.{sym, ◌∙◌}
+use Rattle.std.specs.Prelude.{Bool, false, cond, length, Ok, Err}
 use Rattle.std.proofs.Math.Bool.{true}
-use mathlib.Core.List.{List, ◌++◌}
+use mathlib.Core.List.{List, [], ◌∷◌, ◌++◌}
+use Rattle.std.proofs.Math.Logic.{⊎_elim}
 use Rattle.std.proofs.Math.Dec.{leb}
 use Rattle.std.proofs.Math.ListN.{take, drop}
 use Rattle.std.proofs.Math.Seq.{take_at}
@@ -14,7 +15,10 @@ use Rattle.law.proofs.Gather.{length_table}
 use Rattle.law.specs.Limit.{particles, pairs as pairLimit, envelope}
 use Rattle.law.specs.Promise.{Promise}
 use Rattle.law.proofs.Promise.{refuses, accepts}
-use Rattle.law.specs.Refusal.{verdict}
+use Rattle.law.specs.declared.refusal.Refusal.{Refusal}
+use Rattle.law.specs.declared.refusal.Refusal.TheVariants.{OutOfRange, LongEnvelope}
+use Rattle.law.specs.Refusal.{unless, verdict}
+use Rattle.law.proofs.Refusals.{all_pass, it_fails}
 use Rattle.matrix_shape.specs.Rows.{at, Pattern}
 use Rattle.matrix_pairs.specs.Pairs.{pair_ok_at}
 use Rattle.order_definition.specs.Envelope.{first_col}
@@ -24,9 +28,8 @@ use Rattle.plan_make.specs.Plan.{Plan, four, plan_by, plan_of, envelope_length}
 use Rattle.plan_make.specs.Parts.{five, Made, made, settled}
 use Rattle.plan_doors.specs.Planning as plans
 use Rattle.bench_text.specs.Nine.{limits}
-use Rattle.bench_plan.specs.Outcome.{starts_by, cols_by, order_by, first_by, length_by, given, later, refusals, left, work, planning}
+use Rattle.bench_plan.specs.Outcome.{starts_by, cols_by, order_by, first_by, length_by, draft, given, later, refusals, left, work, planning}
 use Rattle.bench_plan.specs.Built.{Counted}
-use Rattle.bench_plan.specs.declared.inner.Drafted.TheVariants.{Refused, Done}
 use Rattle.bench_plan.specs.Fronts.{plan_to}
 
 pub planned_is : (i : plans.In) (len : ℕ) (p q x y d e f g h : List ℕ) → made len (four p q x y) (five d e f g h) ≡ plans.whole_of i
@@ -51,15 +54,24 @@ order_long : (n : ℕ) (starts cols diagonal : List ℕ) → Pattern n starts co
 unfolding plan_of plan_by
 order_long n starts cols diagonal p = (order_lists n starts cols diagonal p).long
 
+-- ---- one test of a call, as the code makes it
+
+pub passed : (k : Refusal) (t : Bool) → Ok tt ≡ verdict (unless k t ∷ []) → t ≡ true
+passed k t e = (all_pass (unless k t ∷ []) e).0
+
+pub failed : (k j : Refusal) (t : Bool) → Err j ≡ verdict (unless k t ∷ []) → (k ≡ j) × (t ≡ false)
+failed k j t e = ⊎_elim (λ f. f) (λ f. absurd f) (it_fails (unless k t ∷ []) j (sym e))
+
 -- ---- the whole way
 
 module _ (n count : ℕ) (pairs : List ℕ) (g : Counted n count pairs) where
-  pub gave_four : (a b c d : List ℕ) → every (pair_ok_at n pairs) 0 count ≡ false → Promise planning (given n count pairs) (left (Refused 4) a b c d)
+  pub gave_four : (a b c d : List ℕ) → every (pair_ok_at n pairs) 0 count ≡ false
+      → Promise planning (given n count pairs) (left (Err OutOfRange) a b c d)
   unfolding refusals limits later verdict left
-  gave_four a b c d e = refuses planning (given n count pairs) 4 (rw (le-leb n particles g.few, le-leb count pairLimit g.few_pairs, e))
-      (λ z. omega arith)
+  gave_four a b c d e = refuses planning (given n count pairs) OutOfRange (rw (le-leb n particles g.few, le-leb count pairLimit g.few_pairs, e))
 
-  last : every (pair_ok_at n pairs) 0 count ≡ true → verdict (refusals (given n count pairs)) ≡ cond (leb (length_by n count pairs) envelope) 0 7
+  last : every (pair_ok_at n pairs) 0 count ≡ true
+      → verdict (refusals (given n count pairs)) ≡ cond (leb (length_by n count pairs) envelope) (Ok tt) (Err LongEnvelope)
   unfolding refusals limits later verdict
   last e = rw (le-leb n particles g.few, le-leb count pairLimit g.few_pairs, e)
 
@@ -72,9 +84,9 @@ module _ (n count : ℕ) (pairs : List ℕ) (g : Counted n count pairs) where
     unfolding plan_to length_by
     long = ap (λ (x : ℕ × (List ℕ × List ℕ)). x.0) is ∙ rw (s-is, c-is)
 
-    pub gave_seven : envelope < len → Promise planning (given n count pairs) (left (Refused 7) starts cols order first)
+    pub gave_seven : envelope < len → Promise planning (given n count pairs) (left (Err LongEnvelope) starts cols order first)
     unfolding left
-    gave_seven h = refuses planning (given n count pairs) 7 (sym (last e ∙ rw (lt-leb (length_by n count pairs) envelope (rw long at h)))) (λ z. omega arith)
+    gave_seven h = refuses planning (given n count pairs) LongEnvelope (sym (last e ∙ rw (lt-leb (length_by n count pairs) envelope (rw long at h))))
 
     fronts : len ≤ envelope → (take n order ≡ order_by n count pairs) × (take (2 * n) first ≡ first_by n count pairs)
     unfolding plan_to order_by first_by
@@ -90,9 +102,9 @@ module _ (n count : ℕ) (pairs : List ℕ) (g : Counted n count pairs) where
         (drop (2 * n) f) (2 * n) (first_long n s c) in
         (a ∙ rw (s-is, c-is), b ∙ rw (s-is, c-is))
 
-    pub gave_plan : len ≤ envelope → Promise planning (given n count pairs) (left (Done n len) starts cols order first)
+    pub gave_plan : len ≤ envelope → Promise planning (given n count pairs) (left (Ok (draft n len)) starts cols order first)
     unfolding left work
     gave_plan h =
         let w = fronts h in
-        accepts planning (given n count pairs) 0 (sym (last e ∙ rw (le-leb (length_by n count pairs) envelope (rw long at h)))) refl
-        (left (Done n len) starts cols order first) (rw (w.0, w.1, s-is, c-is, long))
+        accepts planning (given n count pairs) (sym (last e ∙ rw (le-leb (length_by n count pairs) envelope (rw long at h))))
+        (left (Ok (draft n len)) starts cols order first) (rw (w.0, w.1, s-is, c-is, long))

@@ -1,5 +1,5 @@
 -- FROM PAIRS TO THEIR PATTERN, in lists that are longer.
-use Rattle.std.specs.Prelude.{ℕ, ◌+◌, ◌-◌, ◌*◌, ◌≤◌, ◌≡◌, true, length, take, drop, replicate}
+use Rattle.std.specs.Prelude.{ℕ, ◌+◌, ◌-◌, ◌*◌, ◌≤◌, ◌≡◌, true, length, take, drop, replicate, Ok}
 use Rattle.std.proofs.Math.Path.{ap}
 use Rattle.std.proofs.Common.{◌∙◌, arith, take_at}
 use mathlib.Core.List.{List, ◌++◌, append_assoc}
@@ -11,7 +11,6 @@ use Rattle.matrix_shape.specs.Rows.{at, Pattern}
 use Rattle.matrix_build.specs.Build.{room_of, work_of, built_of}
 use Rattle.matrix_pairs.specs.Pairs.{pair_ok_at, stored_by, built_formed}
 use Rattle.matrix_building.specs.Building as building
-use Rattle.matrix_building.specs.declared.Built.TheVariants.{Done}
 use Rattle.bench_plan.specs.Outcome.{starts_by, cols_by}
 
 -- counts within the limits, and that many pairs
@@ -61,7 +60,7 @@ module _ (n count : ℕ) (pairs : List ℕ) (g : Counted n count pairs) where
   rest cols = replicate (room_of n count - start_of n (stored_by pairs count) n) 0 ++ drop (room_of n count) cols
 
   -- s, c, d, w are what building leaves
-  module _ (starts cols diagonal work : List ℕ) (m : ℕ) (s c d w : List ℕ) (is : building.left (Done m) s c d w ≡ building.work
+  module _ (starts cols diagonal work : List ℕ) (m : ℕ) (s c d w : List ℕ) (is : building.left (Ok m) s c d w ≡ building.work
       (building.given n count pairs starts cols diagonal work)) where
     starts_are : s ≡ starts_by n count pairs ++ drop (n + 1) starts
     unfolding building.work built_of

@@ -1,60 +1,54 @@
 -- FROM A TEXT TO WHAT IT COMES TO, by what reading it came to.
-use Rattle.std.specs.Prelude.{ℕ, ◌*◌, ◌<◌, ◌≡◌, refl, Bool, List, ◌++◌, leb, length, take}
+use Rattle.std.specs.Prelude.{ℕ, ◌*◌, ◌≡◌, refl, Bool, List, ◌++◌, leb, length, take, Ok, Err}
 use Rattle.std.proofs.Math.Bool.{true, false, cond}
 use Rattle.std.proofs.Common.{arith, leb-true, le-leb}
-use Rattle.law.specs.Number.{bad_text}
+use Rattle.law.specs.declared.refusal.Refusal.{Refusal}
+use Rattle.law.specs.declared.refusal.Refusal.TheVariants.{BadText}
 use Rattle.law.specs.Limit.{particles, pairs as pairLimit}
 use Rattle.law.specs.Promise.{Promise}
-use Rattle.law.specs.Refusal.{Test, verdict}
+use Rattle.law.specs.Refusal.{Test, Verdict, verdict}
 use Rattle.bench_text.specs.Text.{described, particle_count, pair_count}
-use Rattle.bench_text.specs.Nine.{limits, number_by}
+use Rattle.bench_text.specs.Nine.{limits, verdict_by}
 use Rattle.bench_text.proofs.Nine.{refused_by, is_described}
 use Rattle.bench_text.specs.Reading as reading
 use Rattle.bench_text.proofs.Reading as reading_lemmas
-use Rattle.bench_text.specs.declared.inner.Input.{Input}
-use Rattle.bench_text.specs.declared.inner.Input.TheVariants as input
+use Rattle.bench_text.specs.declared.inner.Counts.{Counts}
 use Rattle.bench_plan.specs.Outcome.{Out, given, later, refusals, left, planning, given_by, planned_for}
 use Rattle.bench_plan.specs.Built.{Counted}
-use Rattle.bench_plan.specs.declared.inner.Drafted.TheVariants.{Refused}
 
 -- as many numbers as pairs may have
 abbrev pub numbers_room : ℕ
 numbers_room = 2 * pairLimit
 
 -- reading's refusals, in that room, are the limits', whatever is tested behind them
-early : (n p k : ℕ) (rest : List Test) → verdict (reading.tests n p numbers_room) ≡ k → 0 < k → verdict (limits n p ++ rest) ≡ k
+early : (n p : ℕ) (k : Refusal) (rest : List Test) → verdict (reading.tests n p numbers_room) ≡ Err k → verdict (limits n p ++ rest) ≡ Err k
 unfolding reading.tests limits verdict
-early n p k rest e h = go (leb n particles) (leb p pairLimit) refl refl
+early n p k rest e = go (leb n particles) (leb p pairLimit) refl refl
   where
-    go : (a b : Bool) → leb n particles ≡ a → leb p pairLimit ≡ b → verdict (limits n p ++ rest) ≡ k
+    go : (a b : Bool) → leb n particles ≡ a → leb p pairLimit ≡ b → verdict (limits n p ++ rest) ≡ Err k
     go false b x y = rw x (rw x at e)
     go true false x y = rw (x, y) (rw (x, y) at e)
     go true true x y =
-        let z : 0 ≡ k = rw (x, y, le-leb (2 * p) numbers_room (omega (arith, leb-true p pairLimit y))) at e in
-        absurd (omega arith)
+        let z : ◌≡◌ {A = Verdict} (Ok tt) (Err k) = rw (x, y, le-leb (2 * p) numbers_room (omega (arith, leb-true p pairLimit y))) at e in
+        absurd (let w = z in cc)
 
-module _ (s room z : List ℕ) (k : ℕ) (i : Input) (long : length room ≡ numbers_room) (reads : reading.Reads (reading.given s room) (reading.left i z))
-    (is : i ≡ input.Refused k) where
-  found : (reading.number_of (reading.given s room) ≡ k) × (0 < k)
-  found = reading_lemmas.refused_of s room z k (rw is at reads)
-
-  -- the number is that of whatever begins with the limits
-  pub read_number : (rest : List Test) → (number_by s (limits (particle_count s) (pair_count s) ++ rest) ≡ k) × (0 < k)
-  unfolding number_by
-  read_number rest = (go (described s) (rw long at found.0), found.1)
+module _ (s room z : List ℕ) (k : Refusal) (long : length room ≡ numbers_room) (reads : reading.Reads (reading.given s room) (reading.left (Err k) z)) where
+  -- the refusal is that of whatever begins with the limits
+  pub read_verdict : (rest : List Test) → verdict_by s (limits (particle_count s) (pair_count s) ++ rest) ≡ Err k
+  unfolding verdict_by
+  read_verdict rest = go (described s) (rw long at (reading_lemmas.refused_of s room z k reads))
     where
-      go : (d : Bool) → cond d (verdict (reading.tests (particle_count s) (pair_count s) numbers_room)) bad_text ≡ k
-          → cond d (verdict (limits (particle_count s) (pair_count s) ++ rest)) bad_text ≡ k
-      go true e = early (particle_count s) (pair_count s) k rest e found.1
+      go : (d : Bool) → cond d (verdict (reading.tests (particle_count s) (pair_count s) numbers_room)) (Err BadText) ≡ Err k
+          → cond d (verdict (limits (particle_count s) (pair_count s) ++ rest)) (Err BadText) ≡ Err k
+      go true e = early (particle_count s) (pair_count s) k rest e
       go false e = e
 
-  pub read_refused : (a b c d : List ℕ) → left (Refused k) a b c d ≡ planned_for s
+  pub read_refused : (a b c d : List ℕ) → left (Err k) a b c d ≡ planned_for s
   unfolding planned_for left refusals
-  read_refused a b c d = let f = read_number (later (given_by s)) in refused_by planning s (given_by s) k f.0 f.1
+  read_refused a b c d = refused_by planning s (given_by s) k (read_verdict (later (given_by s)))
 
-pub read_well : (s room z : List ℕ) (n p : ℕ) (i : Input) → reading.Reads (reading.given s room) (reading.left i z) → i ≡ input.Text n p
-    → reading.Accepted s room z n p
-read_well s room z n p i reads is = reading_lemmas.accepted_of s room z n p (rw is at reads)
+pub read_well : (s room z : List ℕ) (c : Counts) → reading.Reads (reading.given s room) (reading.left (Ok c) z) → reading.Accepted s room z c.n c.pairs
+read_well s room z c reads = reading_lemmas.accepted_of s room z c reads
 
 module _ (s room z : List ℕ) (n p : ℕ) (t : reading.Accepted s room z n p) where
   pub read_counted : Counted n p (take (2 * p) z)

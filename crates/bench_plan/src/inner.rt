@@ -1,35 +1,32 @@
 // From a text over its pairs and their pattern to the plan.
+// The lists that are written stay parameters: of a struct of them each clause would have to say that its fields keep their references.
 ghost use Rattle.std.specs.Prelude.{◌≡◌, ℕ, ◌+◌, ◌*◌, ◌≤◌, List, length, take};
 ghost use Rattle.law.specs.Limit.{particles};
 ghost use Rattle.law.specs.Promise.{Promise};
-ghost use Rattle.matrix_shape.specs.Rows.{at, Pattern};
+ghost use Rattle.matrix_shape.specs.Rows.{at};
+ghost use Rattle.matrix_shape.specs.Shape.{IsPattern, lists};
 ghost use Rattle.bench_plan.specs.Outcome.{given, left, planning, planned_for};
 ghost use Rattle.bench_plan.specs.Built.{Counted, Sheet};
 ghost use Rattle.bench_plan.specs.Fronts.{plan_to};
 ghost use Rattle.bench_plan.specs.Read.{numbers_room};
 
-use bench_text::inner::Input;
+use bench_text::inner::Counts;
+use law::refusal::{Refusal, ensure};
+use matrix_shape::pattern::Pattern;
 
-#[derive(Clone, Copy)]
-pub enum Drafted {
-    Refused(u8),
-    // How many particles there are, and how long the envelope is.
-    Done(usize, u32),
+// How many particles there are, and how long the envelope is.
+#[derive(Clone, Copy, Debug, PartialEq, Eq)]
+pub struct Draft {
+    pub n: usize,
+    pub envelope: u32,
 }
 
 // The order and the first columns into the fronts of lent lists, where the envelope fits. Answers how long that is. The plan's other lists end here.
-fn from_pattern(
-    n: usize,
-    row_offsets: &[u32],
-    cols: &[u32],
-    diagonal: &[u32],
-    order: &mut [u32],
-    first: &mut [u32],
-) -> usize
-    requires { Pattern n row_offsets.now cols.now diagonal.now × ((n ≤ length order.old) × (2 * n ≤ length first.old)) }
+fn from_pattern(pattern: &Pattern, order: &mut [u32], first: &mut [u32]) -> usize
+    requires { IsPattern (lists pattern.now) × ((pattern.now.n ≤ length order.old) × (2 * pattern.now.n ≤ length first.old)) }
     ensures { ◌≡◌ {A = ℕ × (List ℕ × List ℕ)} (result, (order.new, first.new))
-        (plan_to n (take (n + 1) row_offsets.now) (take (at row_offsets.now n) cols.now) order.old
-        first.old) }
+        (plan_to pattern.now.n (take (pattern.now.n + 1) pattern.now.row_offsets.now)
+        (take (at pattern.now.row_offsets.now pattern.now.n) pattern.now.cols.now) order.old first.old) }
 {
     let mut inverse = [0u32; 1024];
     let mut row_start = [0u32; 2049];
@@ -39,10 +36,7 @@ fn from_pattern(
     let mut level = [0u32; 1024];
     let mut queue = [0u32; 1024];
     plan_doors::front::plan(
-        n,
-        row_offsets,
-        cols,
-        diagonal,
+        pattern,
         order,
         &mut inverse,
         first,
@@ -57,8 +51,7 @@ fn from_pattern(
 
 // Pattern and plan of pairs whose counts are within the limits, in the fronts of the lists.
 pub fn from_pairs(
-    n: usize,
-    count: usize,
+    counts: Counts,
     pairs: &[u32],
     row_offsets: &mut [u32],
     cols: &mut [u32],
@@ -66,21 +59,30 @@ pub fn from_pairs(
     work: &mut [u32],
     order: &mut [u32],
     first: &mut [u32],
-) -> Drafted
-    requires { Counted n count pairs.now ×
+) -> Result<Draft, Refusal>
+    requires { Counted counts.n counts.pairs pairs.now ×
         (Sheet row_offsets.old cols.old diagonal.old work.old order.old × (2 * particles ≤ length first.old)) }
-    ensures { Promise planning (given n count pairs.now)
+    ensures { Promise planning (given counts.n counts.pairs pairs.now)
         (left result row_offsets.new cols.new order.new first.new) }
 {
-    if !matrix_pairs::given::pairs_ok(n, count, pairs) {
-        return Drafted::Refused(law::refusal::OUT_OF_RANGE);
-    }
-    matrix_building::inner::build(n, count, pairs, row_offsets, cols, diagonal, work);
-    let len = from_pattern(n, row_offsets, cols, diagonal, order, first);
-    if law::ENVELOPE < len {
-        return Drafted::Refused(law::refusal::LONG_ENVELOPE);
-    }
-    Drafted::Done(n, len as u32)
+    let n = counts.n;
+    ensure(
+        matrix_pairs::given::pairs_ok(n, counts.pairs, pairs),
+        Refusal::OutOfRange,
+    )?;
+    matrix_building::inner::build(n, counts.pairs, pairs, row_offsets, cols, diagonal, work);
+    let pattern = Pattern {
+        n,
+        row_offsets,
+        cols,
+        diagonal,
+    };
+    let len = from_pattern(&pattern, order, first);
+    ensure(len <= law::ENVELOPE, Refusal::LongEnvelope)?;
+    Ok(Draft {
+        n,
+        envelope: len as u32,
+    })
 }
 
 // Reads the text and leaves its pattern and plan in the fronts of the lists.
@@ -93,27 +95,21 @@ pub fn from_text(
     work: &mut [u32],
     order: &mut [u32],
     first: &mut [u32],
-) -> Drafted
+) -> Result<Draft, Refusal>
     requires { (length numbers.old ≡ numbers_room) ×
         (Sheet row_offsets.old cols.old diagonal.old work.old order.old × (2 * particles ≤ length first.old)) }
     ensures { left result row_offsets.new cols.new order.new first.new ≡ planned_for text.now }
 {
-    let input = bench_text::inner::read(text, numbers);
-    match input {
-        Input::Refused(k) => Drafted::Refused(k),
-        Input::Text { n, pairs } => {
-            let m = 2 * pairs;
-            from_pairs(
-                n,
-                pairs,
-                &numbers[..m],
-                row_offsets,
-                cols,
-                diagonal,
-                work,
-                order,
-                first,
-            )
-        }
-    }
+    let counts = bench_text::inner::read(text, numbers)?;
+    let m = 2 * counts.pairs;
+    from_pairs(
+        counts,
+        &numbers[..m],
+        row_offsets,
+        cols,
+        diagonal,
+        work,
+        order,
+        first,
+    )
 }

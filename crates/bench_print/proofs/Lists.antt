@@ -1,30 +1,29 @@
--- Writing a text byte by byte, and a list number by number: the turns of the two loops.
-use Prim.Native.Nat.{ℕ, ◌+◌, ◌≤◌, ◌<◌}
-use mathlib.Core.Path.{◌≡◌}
-use mathlib.Core.List.{List, [], ◌∷◌}
+-- Writing a text as a part of the buffer, and a list number by number: the turns of the loop.
+use Prim.Native.Nat.{ℕ, ◌+◌, ◌-◌, ◌≤◌, ◌<◌}
+use mathlib.Core.Path.{◌≡◌, refl, sym, ap, ◌∙◌}
+use mathlib.Core.List.{List, [], ◌∷◌, ◌++◌, append_assoc}
 use native.Mathlib.Omega.{arith}
-use native.Mathlib.Numerals.{add-one}
-use lib.ListN.{length, get_or, take, set}
-use lib.Seq.{take-suc, take-length, length-take-le}
+use lib.ListN.{length, get_or, take, drop, set}
+use lib.Seq.{sets-eq, drop-drop}
+use Rattle.law.specs.Store.{written}
 use Rattle.law.specs.Gather.{gather, up_to}
 use Rattle.law.proofs.Gather.{gather_none, gather_more, up_to_more, up_to_rise}
 use Rattle.law.specs.Put.{Put, put_none, put_one, put_both}
 use Rattle.bench_print.specs.Digits.{digits}
 use Rattle.bench_print.specs.Lines.{item, listed}
 
--- ---- bytes: the first i are written
+-- ---- bytes, as a part of the buffer that is handed back
 
-pub bytes_turn : (text old out : List ℕ) (at i to : ℕ) → i < length text → Put (take i text) at old out to → Put (take (i + 1) text) at old
-    (set out to (get_or text i 0)) (to + 1)
-bytes_turn text old out at i to h p =
-    rw (add-one i, take-suc text i 0 h) (put_both (take i text) (get_or text i 0 ∷ []) old out _ at to _ p (put_one (get_or text i 0) out to))
-
-pub bytes_room : (text old out : List ℕ) (at i to : ℕ) → at + length text ≤ length old → length out ≡ length old → i < length text
-    → Put (take i text) at old out to → to < length out
-bytes_room text old out at i to h e l p = omega (arith, p.next, length-take-le i text (omega arith))
-
-pub bytes_end : (text old out : List ℕ) (at i to : ℕ) → i ≡ length text → Put (take i text) at old out to → Put text at old out to
-bytes_end text old out at i to e p = rw (e, take-length text) at p
+pub bytes_put : (text old : List ℕ) (at : ℕ) → at + length text ≤ length old
+    → Put text at old (take at old ++ (text ++ drop ((at + length text) - at) (drop at old))) (at + length text)
+unfolding written
+bytes_put text old at h =
+    let e : (at + length text) - at ≡ length text = omega arith in
+    record {
+      next = refl;
+      holds = sym (sets-eq text old at (omega arith) ∙ append_assoc (take at old) text (drop (at + length text) old)
+          ∙ ap (λ (t : List ℕ). take at old ++ (text ++ t)) (sym (rw e (drop-drop (length text) at old))));
+    }
 
 -- ---- numbers: the first i items are written
 

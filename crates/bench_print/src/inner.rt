@@ -1,21 +1,22 @@
 // A `put_` function writes from the place `at` on and answers the place past what it wrote; a
 // `write_` function writes a whole answer at the buffer's front and answers its length.
+// A writer that keeps buffer and place would be no plainer: each clause would have to say that it keeps the buffer, and `Put` names both places.
 ghost use Rattle.std.specs.Prelude.{◌+◌, ◌≤◌, length};
 ghost use Rattle.law.specs.Put.{Put, Written};
 ghost use Rattle.bench_print.specs.Digits.{digits};
 ghost use Rattle.bench_print.specs.Lines.{item, listed, order_line, number_line, plan_text, refused_text, lines_room, refused_room};
 
-// The decimal digits of n.
+// The decimal digits of n, as `digits` has them. fmt's writers can fail, which this call can't.
 pub fn put_number(n: u32, at: usize, out: &mut [u8]) -> usize
     requires { at + length (digits n) ≤ length out.old }
     ensures { Put (digits n) at out.old out.new result }
 {
     if n < 10 {
-        out[at] = 48 + n as u8;
+        out[at] = b'0' + n as u8;
         return at + 1;
     }
     let next = put_number(n / 10, at, out);
-    out[next] = 48 + (n % 10) as u8;
+    out[next] = b'0' + (n % 10) as u8;
     next + 1
 }
 
@@ -24,12 +25,9 @@ pub fn put_bytes(at: usize, text: &[u8], out: &mut [u8]) -> usize
     requires { at + length text.now ≤ length out.old }
     ensures { Put text.now at out.old out.new result }
 {
-    let mut to = at;
-    for i in 0..text.len() {
-        out[to] = text[i];
-        to += 1;
-    }
-    to
+    let end = at + text.len();
+    out[at..end].copy_from_slice(text);
+    end
 }
 
 // A space and a number.
@@ -47,9 +45,8 @@ pub fn put_list(at: usize, list: &[u32], out: &mut [u8]) -> usize
     ensures { Put (listed list.now) at out.old out.new result }
 {
     let mut to = at;
-    for i in 0..list.len() {
-        let next = put_item(list[i], to, out);
-        to = next;
+    for x in list {
+        to = put_item(*x, to, out);
     }
     to
 }
@@ -88,5 +85,5 @@ pub fn write_refused(number: u8, out: &mut [u8]) -> usize
     requires { refused_room ≤ length out.old }
     ensures { Written (refused_text number) out.old out.new result }
 {
-    put_line(0, number as u32, b"refused ", out)
+    put_line(0, u32::from(number), b"refused ", out)
 }

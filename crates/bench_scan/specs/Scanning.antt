@@ -10,7 +10,8 @@ use Rattle.law.specs.All.{all}
 use Rattle.law.specs.Decimal.{value_from, value}
 use Rattle.bench_scan.specs.Numbers.{is_gap, is_digit, allowed, before, pieces, filled, numbers, largest, small, digit_at}
 use Rattle.bench_scan.specs.Scan.{State, step_to, from_gap, from_word, kept, place_to, room_to, state_to, scan_to}
-use Rattle.bench_scan.specs.declared.inner.Scan.TheVariants.{Bad, Gap, Word}
+use Rattle.std.specs.Prelude.{None, Some}
+use Rattle.bench_scan.specs.declared.inner.Stand.TheVariants.{Gap, Word}
 
 -- the numbers of pieces, the first of which goes on with v
 unfoldable continued : ℕ → List (List ℕ) → List ℕ
@@ -24,18 +25,18 @@ place_all from k (v ∷ vs) room = place_all from (k + 1) vs (place_to from k v 
 
 -- a pass with k numbers, to which vs are added if all is fine
 pub record Right (from k : ℕ) (fine : Bool) (vs room : List ℕ) (end : State) : Type 0 where
-  pub count : end.0 ≡ cond fine (Gap (k + length vs)) Bad
+  pub count : end.0 ≡ cond fine (Some (Gap (k + length vs))) None
   pub stored : fine ≡ true → end.1 ≡ place_all from k vs room
 
 abbrev GapRight : ℕ → List ℕ → Type 0
 GapRight from s =
-    (k : ℕ) (room : List ℕ) → Right from k (all allowed s && all small (numbers s)) (numbers s) room (state_to from 32 (along (state_to from) (Gap k, room) s))
+    (k : ℕ) (room : List ℕ) → Right from k (all allowed s && all small (numbers s)) (numbers s) room (state_to from 32 (along (state_to from) (Some (Gap k), room) s))
 
 abbrev WordRight : ℕ → List ℕ → Type 0
 WordRight from s =
     (k v : ℕ) (room : List ℕ) → small v ≡ true
     → Right from k (all allowed s && all small (continued v (pieces s))) (continued v (pieces s)) room
-    (state_to from 32 (along (state_to from) (Word k v, room) s))
+    (state_to from 32 (along (state_to from) (Some (Word k v), room) s))
 
 begun : (b : ℕ) (ps : List (List ℕ)) → map value (filled (before b ps)) ≡ continued (b - 48) ps
 unfolding before filled continued value value_from
@@ -65,13 +66,13 @@ unfolding small all continued
 too_big v [] h = rw h
 too_big v (w ∷ ws) h = no_and (leb (value_from v w) largest) _ (lt-leb (value_from v w) largest (omega (arith, leb-false v largest h, grows v w)))
 
-bad_stays : (from : ℕ) (room s : List ℕ) → along (state_to from) (Bad, room) s ≡ (Bad, room)
+bad_stays : (from : ℕ) (room s : List ℕ) → along (state_to from) (None, room) s ≡ (None, room)
 unfolding along state_to step_to room_to
 bad_stays from room [] = refl
 bad_stays from room (b ∷ s) = bad_stays from room s
 
 -- a pass that is bad is right where not all is fine
-bad_right : (from k : ℕ) (fine : Bool) (vs room r s : List ℕ) (st : State) → st ≡ (Bad, r) → fine ≡ false
+bad_right : (from k : ℕ) (fine : Bool) (vs room r s : List ℕ) (st : State) → st ≡ (None, r) → fine ≡ false
     → Right from k fine vs room (state_to from 32 (along (state_to from) st s))
 unfolding state_to step_to room_to
 bad_right from k fine vs room r s st e h =
@@ -95,10 +96,10 @@ one_more from k v f vs room end r =
 module _ (from b : ℕ) (t : List ℕ) (gap-t : GapRight from t) (word-t : WordRight from t) where
   gap_more : (x y : Bool) → is_gap b ≡ x → is_digit b ≡ y → GapRight from (b ∷ t)
   unfolding along state_to step_to room_to from_gap all allowed numbers pieces filled
-  gap_more true y p q k room = moved from k t room (state_to from b (Gap k, room)) _ _ _ _ _ (rw p) (rw p) (rw p) (gap-t k room)
+  gap_more true y p q k room = moved from k t room (state_to from b (Some (Gap k), room)) _ _ _ _ _ (rw p) (rw p) (rw p) (gap-t k room)
   gap_more false true p q k room =
       let e : map value (filled (cond (is_gap b) ([] ∷ pieces t) (before b (pieces t)))) ≡ continued (b - 48) (pieces t) = rw p (begun b (pieces t)) in
-      moved from k t room (state_to from b (Gap k, room)) _ _ _ _ _ (rw (p, q)) (rw e (rw (p, q))) e (word-t k (b - 48) room (digit_small b q))
+      moved from k t room (state_to from b (Some (Gap k), room)) _ _ _ _ _ (rw (p, q)) (rw e (rw (p, q))) e (word-t k (b - 48) room (digit_small b q))
   gap_more false false p q k room = bad_right from k _ _ room room t _ (rw (p, q)) (rw (p, q))
 
   word_kept : (z : Bool) (k v : ℕ) (room : List ℕ) → small v ≡ z
@@ -112,18 +113,18 @@ module _ (from b : ℕ) (t : List ℕ) (gap-t : GapRight from t) (word-t : WordR
   unfolding along state_to step_to room_to from_word all allowed numbers pieces continued value_from place_all
   word_more true y p q k v room h =
       let e : continued v (cond (is_gap b) ([] ∷ pieces t) (before b (pieces t))) ≡ v ∷ numbers t = rw p in
-      moved from k t room (state_to from b (Word k v, room)) (Gap (k + 1), place_to from k v room) _ (all allowed t && all small (numbers t)) _ _ (rw p)
+      moved from k t room (state_to from b (Some (Word k v), room)) (Some (Gap (k + 1)), place_to from k v room) _ (all allowed t && all small (numbers t)) _ _ (rw p)
       (rw e (rw (p, h))) e
       (one_more from k v _ _ room _ (gap-t (k + 1) (place_to from k v room)))
   word_more false true p q k v room h =
       let e : continued v (cond (is_gap b) ([] ∷ pieces t) (before b (pieces t))) ≡ continued (v * 10 + (b - 48)) (pieces t) = rw p (gone_on v b (pieces t)) in
-      moved from k t room (state_to from b (Word k v, room)) _ _ _ _ _ (rw (p, q)) (rw e (rw (p, q))) e (word_kept _ k (v * 10 + (b - 48)) room refl)
+      moved from k t room (state_to from b (Some (Word k v), room)) _ _ _ _ _ (rw (p, q)) (rw e (rw (p, q))) e (word_kept _ k (v * 10 + (b - 48)) room refl)
   word_more false false p q k v room h = bad_right from k _ _ room room t _ (rw (p, q)) (rw (p, q))
 
 right : (from : ℕ) (s : List ℕ) → GapRight from s × WordRight from s
 unfolding along state_to step_to room_to from_gap from_word is_gap is_digit all allowed numbers pieces filled continued value_from place_all
 right from [] = (
-  (λ k room. record { count = ap Gap (sym (add-zero k)); stored = λ h. refl }),
+  (λ k room. record { count = ap (λ (j : ℕ). Some (Gap j)) (sym (add-zero k)); stored = λ h. refl }),
   (λ k v room h. rw h (record { count = refl; stored = λ h. refl })),
 )
 right from (b ∷ t) =
@@ -133,4 +134,4 @@ right from (b ∷ t) =
 -- the pass over a whole text
 pub scan_right : (from : ℕ) (s room : List ℕ) → Right from 0 (all allowed s && all small (numbers s)) (numbers s) room (scan_to from s room)
 unfolding scan_to
-scan_right from s room = rw (over_list (state_to from) 0 s (Gap 0, room)) ((right from s).0 0 room)
+scan_right from s room = rw (over_list (state_to from) 0 s (Some (Gap 0), room)) ((right from s).0 0 room)

@@ -7,7 +7,6 @@ ghost use Rattle.bench_print.specs.Lines.{lines_room};
 ghost use Rattle.bench_answer.specs.Answer.{answer_of};
 ghost use Rattle.bench_serve.specs.Reply.{Replies};
 
-use bench_answer::Answered;
 use std::io;
 use std::io::{Read, Write};
 
@@ -20,8 +19,8 @@ fn reply(n: usize, buffer: &[u8], out: &mut [u8]) -> usize
     ensures { Replies n buffer.now out.old out.new result }
 {
     match bench_desk::answer(&buffer[..n], out) {
-        Answered::Refused(k) => bench_print::inner::write_refused(k, out),
-        Answered::Done(k) => k,
+        Ok(k) => k,
+        Err(refusal) => bench_print::inner::write_refused(u8::from(refusal), out),
     }
 }
 

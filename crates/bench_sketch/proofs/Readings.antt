@@ -16,10 +16,10 @@ use Rattle.order_definition.specs.Envelope.{first_block, first_col, row_starts}
 use Rattle.plan_make.specs.Plan.{plan_by, plan_of, envelope_length}
 use Rattle.bench_scan.specs.Numbers.{is_gap, is_digit, allowed, before as piecesBefore, pieces, filled, numbers, small}
 use Rattle.bench_text.specs.Text.{counted, described}
-use Rattle.bench_text.specs.Nine.{limits, number_by}
+use Rattle.bench_text.specs.Nine.{limits, verdict_by}
 use Rattle.bench_print.specs.Digits.{digits, digits_in}
 use Rattle.bench_print.specs.Lines.{number_line, refused_text}
-use Rattle.bench_plan.specs.Outcome.{length_by, later, refusals, number_for}
+use Rattle.bench_plan.specs.Outcome.{length_by, later, refusals, verdict_for}
 use Rattle.bench_picture.specs.Pixels.{before, moved, hatched, after, pixel, digit, row_of, header_of, picture_of}
 use Rattle.bench_sketch.specs.Spied.{scene_by, scene_for, spied_of}
 
@@ -38,5 +38,5 @@ readings : Readings
 unfolding bytes value value_from all every some over fold gather up_to verdict stored columnsOf cols_of start_of starts_of joined stored_by neighbours reach
     settle choose_start fresh placing order_of first_block first_col row_starts plan_by plan_of envelope_length is_gap is_digit allowed piecesBefore pieces
     filled numbers small counted described digits digits_in number_line refused_text length_by refusals before moved hatched after pixel digit row_of
-    header_of picture_of scene_by scene_for limits later number_by number_for spied_of
+    header_of picture_of scene_by scene_for limits later verdict_by verdict_for spied_of
 readings = record { none = refl; one = refl; three = refl; beyond = refl; many = refl; empty = refl }

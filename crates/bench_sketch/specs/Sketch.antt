@@ -1,8 +1,10 @@
 -- FROM WHAT A TEXT CAME TO TO WHAT IS DRAWN.
-use Rattle.std.specs.Prelude.{ℕ, ◌+◌, ◌*◌, ◌≤◌, false, List, length, take}
+use Rattle.std.specs.Prelude.{ℕ, ◌+◌, ◌*◌, ◌≤◌, false, List, length, take, Result, Ok, Err}
 use Rattle.std.proofs.Math.Path.{◌≡◌, ap}
 use Rattle.std.proofs.Common.{sym, ◌∙◌, ⊎_elim, arith, get_or-take, take_all}
-use Rattle.law.specs.Number.{bad_text}
+use Rattle.law.specs.Number.{number}
+use Rattle.law.specs.declared.refusal.Refusal.{Refusal}
+use Rattle.law.specs.declared.refusal.Refusal.TheVariants.{BadText}
 use Rattle.law.specs.Truth.{below_or}
 use Rattle.matrix_shape.specs.Made.{length_cols}
 use Rattle.matrix_shape.specs.Rows.{at}
@@ -12,16 +14,13 @@ use Rattle.bench_text.proofs.Nine.{nine_of}
 use Rattle.bench_text.specs.Buffer.{Buffered, ReadFrom}
 use Rattle.bench_text.proofs.Buffers.{decides}
 use Rattle.bench_print.specs.Lines.{refused_text}
-use Rattle.bench_plan.specs.Outcome.{order_by, first_by, refusals, left, given_by, number_for, planned_for}
+use Rattle.bench_plan.specs.Outcome.{order_by, first_by, refusals, left, given_by, verdict_for, planned_for}
 use Rattle.bench_plan.specs.Told.{Tells, told_refused, told_done}
-use Rattle.bench_plan.specs.declared.inner.Drafted.{Drafted}
-use Rattle.bench_plan.specs.declared.inner.Drafted.TheVariants as plan
+use Rattle.bench_plan.specs.declared.inner.Draft.{Draft}
 use Rattle.bench_picture.specs.Pixels.{Scene, scene, picture_of}
 use Rattle.bench_picture.specs.Ready.{Ready}
 use Rattle.bench_sketch.specs.Prepared.{ends, scene_ready}
 use Rattle.bench_sketch.specs.Spied.{scene_by, scene_for, spied_of}
-use Rattle.bench_sketch.specs.declared.inner.Sketched.{Sketched}
-use Rattle.bench_sketch.specs.declared.inner.Sketched.TheVariants.{Refused, Done}
 
 -- the part of each list that is drawn
 abbrev pub parts : ℕ → List ℕ → List ℕ → List ℕ → List ℕ → Scene
@@ -33,36 +32,38 @@ pub record Shows (read : ℕ) (buffer : List ℕ) (n : ℕ) (starts cols order f
   pub ready : Ready (parts n starts cols order first)
   pub columns : at starts n ≤ length cols
 
-pub record Sketches (read : ℕ) (buffer : List ℕ) (r : Sketched) (starts cols order first : List ℕ) : Type 0 where
-  pub refused : (k : ℕ) → r ≡ Refused k → (input : List ℕ) → ReadFrom input read buffer → spied_of input ≡ refused_text k
-  pub done : (n : ℕ) → r ≡ Done n → Shows read buffer n starts cols order first
+pub record Sketches (read : ℕ) (buffer : List ℕ) (r : Result ℕ Refusal) (starts cols order first : List ℕ) : Type 0 where
+  pub refused : (k : Refusal) → r ≡ Err k → (input : List ℕ) → ReadFrom input read buffer → spied_of input ≡ refused_text (number k)
+  pub done : (n : ℕ) → r ≡ Ok n → Shows read buffer n starts cols order first
 
 -- 9 for whatever is not as described
-nine : (s : List ℕ) → described s ≡ false → spied_of s ≡ refused_text bad_text
-unfolding spied_of number_for
+nine : (s : List ℕ) → described s ≡ false → spied_of s ≡ refused_text (number BadText)
+unfolding spied_of verdict_for
 nine s h = rw (nine_of s (refusals (given_by s)) h)
 
-module _ (read : ℕ) (buffer : List ℕ) (b : Buffered read buffer) (starts cols order first : List ℕ) (p : Drafted)
-    (is : left p starts cols order first ≡ planned_for (take read buffer)) where
+module _ (read : ℕ) (buffer : List ℕ) (b : Buffered read buffer) (starts cols order first : List ℕ) where
   abbrev text : List ℕ
   text = take read buffer
 
   -- the bytes that were read have the input's output
   own : (input : List ℕ) → ReadFrom input read buffer → spied_of input ≡ spied_of text
-  own input from = sym (decides read buffer b spied_of (refused_text bad_text) nine input from)
+  own input from = sym (decides read buffer b spied_of (refused_text (number BadText)) nine input from)
 
-  pub sketched_none : (k : ℕ) → p ≡ plan.Refused k → Sketches read buffer (Refused k) starts cols order first
+  pub sketched_none : (k : Refusal) → left (Err k) starts cols order first ≡ planned_for text → Sketches read buffer (Err k) starts cols order first
   unfolding spied_of
-  sketched_none k e =
+  sketched_none k is =
       record {
-        refused = λ j q input from. let same : k ≡ j = cc in own input from ∙ told_refused text starts cols order first p is _ refused_text k e
-            ∙ ap refused_text same;
-        done = λ n q. absurd (let z : ◌≡◌ {A = ℕ} 0 1 = cc in omega arith);
+        refused = λ j q input from. let same : k ≡ j = cc in own input from
+            ∙ told_refused text starts cols order first _ (λ x. refused_text (number x)) k is ∙ ap (λ (x : Refusal). refused_text (number x)) same;
+        done = λ n q. absurd (let z = q in cc);
       }
 
-  module _ (n len : ℕ) (e : p ≡ plan.Done n len) where
-    told : Tells text n len starts cols order first
-    told = told_done text starts cols order first p is n len e
+  module _ (d : Draft) (is : left (Ok d) starts cols order first ≡ planned_for text) where
+    abbrev n : ℕ
+    n = d.n
+
+    told : Tells text n d.envelope starts cols order first
+    told = told_done text starts cols order first d is
 
     scenes : scene_for text ≡ parts n starts cols order first
     unfolding scene_for scene_by order_by first_by
@@ -94,9 +95,9 @@ module _ (read : ℕ) (buffer : List ℕ) (b : Buffered read buffer) (starts col
           columns = columns;
         }
 
-    pub sketched : Sketches read buffer (Done n) starts cols order first
+    pub sketched : Sketches read buffer (Ok n) starts cols order first
     sketched =
         record {
-          refused = λ k q. absurd (let z : ◌≡◌ {A = ℕ} 0 1 = cc in omega arith);
+          refused = λ k q. absurd (let z = q in cc);
           done = λ m q. let same : n ≡ m = cc in rw same at shown;
         }

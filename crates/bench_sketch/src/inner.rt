@@ -1,4 +1,5 @@
 // From a text to the lists that are drawn.
+// The lists that are written stay parameters: of a struct of them each clause would have to say that its fields keep their references.
 ghost use Rattle.std.specs.Prelude.{◌≡◌, ◌*◌, ◌≤◌, length};
 ghost use Rattle.law.specs.Limit.{particles};
 ghost use Rattle.bench_text.specs.Buffer.{Buffered};
@@ -6,16 +7,9 @@ ghost use Rattle.bench_plan.specs.Built.{Sheet};
 ghost use Rattle.bench_plan.specs.Read.{numbers_room};
 ghost use Rattle.bench_sketch.specs.Sketch.{Sketches};
 
-use bench_plan::inner::Drafted;
+use law::refusal::Refusal;
 
-#[derive(Clone, Copy)]
-pub enum Sketched {
-    Refused(u8),
-    // How many particles there are.
-    Done(usize),
-}
-
-// Takes what was read into the buffer and leaves its pattern and plan in the fronts of the lists.
+// Takes what was read into the buffer and leaves its pattern and plan in the fronts of the lists. Answers how many particles there are.
 pub fn sketch(
     read: usize,
     buffer: &[u8],
@@ -26,13 +20,13 @@ pub fn sketch(
     work: &mut [u32],
     order: &mut [u32],
     first: &mut [u32],
-) -> Sketched
+) -> Result<usize, Refusal>
     requires { Buffered read buffer.now ×
         ((length numbers.old ≡ numbers_room) ×
         (Sheet row_offsets.old cols.old diagonal.old work.old order.old × (2 * particles ≤ length first.old))) }
     ensures { Sketches read buffer.now result row_offsets.new cols.new order.new first.new }
 {
-    let came = bench_plan::inner::from_text(
+    let draft = bench_plan::inner::from_text(
         &buffer[..read],
         numbers,
         row_offsets,
@@ -41,9 +35,6 @@ pub fn sketch(
         work,
         order,
         first,
-    );
-    match came {
-        Drafted::Refused(k) => Sketched::Refused(k),
-        Drafted::Done(n, _) => Sketched::Done(n),
-    }
+    )?;
+    Ok(draft.n)
 }

@@ -10,13 +10,15 @@ use borrow.Author.Tests.{leb-true, le-leb, eqb-true, eq-eqb, not-true}
 use Rattle.law.specs.All.{all, all_at, all_of}
 use Rattle.law.specs.Decimal.{value, value_from}
 use Rattle.law.specs.Limit.{bytes as byteLimit}
+use Rattle.std.specs.Prelude.{Err}
+use Rattle.law.specs.declared.refusal.Refusal.TheVariants.{BadText}
 use Rattle.law.specs.Refusal.{Under}
 use Rattle.law.specs.Truth.{both, and_true}
 use Rattle.bench_scan.specs.Numbers.{is_gap, allowed, before, pieces, filled, numbers, largest, small}
 use Rattle.bench_text.specs.Text.{counted, described, pair_count}
 use Rattle.bench_text.specs.Nine.{limits}
 use Rattle.bench_text.proofs.Nine.{nine_is, nine_of}
-use Rattle.bench_text.specs.Reading.{In, refusals, tests, number_of}
+use Rattle.bench_text.specs.Reading.{In, refusals, tests, verdict_of}
 
 -- ---- a text's numbers: these three laws leave `numbers` no choice
 
@@ -119,5 +121,5 @@ no_test_is_nine : (i : In) → Under 9 (refusals i)
 unfolding tests limits
 no_test_is_nine i = (omega arith, (omega arith, (omega arith, tt)))
 
-nine_exactly : (i : In) → (number_of i ≡ 9 → described i.text ≡ false) × (described i.text ≡ false → number_of i ≡ 9)
+nine_exactly : (i : In) → (verdict_of i ≡ Err BadText → described i.text ≡ false) × (described i.text ≡ false → verdict_of i ≡ Err BadText)
 nine_exactly i = (nine_is i.text (refusals i) (no_test_is_nine i), nine_of i.text (refusals i))

@@ -1,4 +1,4 @@
-mod Passes
+pub mod Passes
 mod Language
 mod Readings
 mod Filling

@@ -1,22 +1,28 @@
 -- What follows of specs/Reading.antt: its theorems, apart from the definitions.
-use Rattle.std.specs.Prelude.{ℕ, zero, suc, ◌*◌, ◌<◌, ◌≡◌, refl, true, List, [], ◌∷◌, ◌++◌, length, get_or, drop, leb}
-use Rattle.std.proofs.Common.{ap, arith, take_at, leb-true, eqb-true}
+use Rattle.std.specs.Prelude.{ℕ, ◌*◌, ◌≡◌, refl, true, List, [], ◌∷◌, ◌++◌, length, get_or, drop, leb, Result, Ok, Err}
+use Rattle.std.proofs.Common.{ap, sym, arith, take_at, leb-true, eqb-true}
 use Rattle.law.specs.All.{all}
 use Rattle.law.specs.Limit.{bytes as byteLimit}
 use Rattle.law.proofs.Refusals.{all_pass}
+use Rattle.law.specs.declared.refusal.Refusal.{Refusal}
+use Rattle.law.specs.Refusal.{Verdict}
 use Rattle.law.specs.Promise.{by}
 use Rattle.law.specs.Truth.{both}
 use Rattle.bench_scan.specs.Numbers.{allowed, numbers, small}
 use Rattle.bench_text.specs.Text.{counted, described, particle_count, pair_count, pair_numbers}
 use Rattle.bench_text.specs.Nine.{limits, outcome_by}
 use Rattle.bench_text.proofs.Nine.{no_nine}
-use Rattle.bench_text.specs.declared.inner.Input.TheVariants.{Refused, Text}
-use Rattle.bench_text.specs.Reading.{Accepted, In, Out, Reads, given, in_order, left, number_of, refusals, refuse, tests, work}
+use Rattle.bench_text.specs.Head.{counts_of}
+use Rattle.bench_text.specs.declared.inner.Counts.{Counts}
+use Rattle.bench_text.specs.Reading.{Accepted, In, Out, Reads, given, left, verdict_of, refusals, refuse, tests, work}
 
-text_case : (i : In) (q n p : ℕ) (z : List ℕ) → left (Text n p) z ≡ by q (work i) (λ k. refuse k i) → (q ≡ 0) × (left (Text n p) z ≡ work i)
-text_case i zero n p z e = (refl, e)
-text_case i (suc q) n p z e =
-    absurd (let a : Text n p ≡ Refused (suc q) = ap (λ (o : Out). o.answer) e in let z : ◌≡◌ {A = ℕ} 0 1 = cc in omega arith)
+-- an answer is no refusal
+no_both : {A : Type 0} (c : Counts) (k : Refusal) → ◌≡◌ {A = Result Counts Refusal} (Ok c) (Err k) → A
+no_both c k e = absurd (let z = e in cc)
+
+text_case : (i : In) (v : Verdict) (c : Counts) (z : List ℕ) → left (Ok c) z ≡ by v (work i) (λ k. refuse k i) → (v ≡ Ok tt) × (left (Ok c) z ≡ work i)
+text_case i (Ok tt) c z e = (refl, e)
+text_case i (Err k) c z e = no_both c k (ap (λ (o : Out). o.answer) e)
 
 pairs_long : (vs : List ℕ) → counted vs ≡ true → length (drop 2 vs) ≡ 2 * get_or vs 1 0
 unfolding counted
@@ -29,16 +35,17 @@ unfolding described
 pair_numbers_lem s d =
     pairs_long (numbers s) (both (all small (numbers s)) _ (both (all allowed s) _ (both (leb (length s) byteLimit) _ d).1).1).1
 
-pub accepted_of : (s room z : List ℕ) (n p : ℕ) → Reads (given s room) (left (Text n p) z) → Accepted s room z n p
+pub accepted_of : (s room z : List ℕ) (c : Counts) → Reads (given s room) (left (Ok c) z) → Accepted s room z c.n c.pairs
 unfolding outcome_by work tests limits
-accepted_of s room z n p r =
+accepted_of s room z c r =
     let i = given s room in
-    let t = text_case i (number_of i) n p z r in
+    let t = text_case i (verdict_of i) c z r in
     let d = no_nine s (refusals i) t.0 in
-    let f = all_pass 1 (refusals i) (omega arith) (in_order i) d.1 in
-    let a : Text n p ≡ Text (particle_count s) (pair_count s) = ap (λ (o : Out). o.answer) t.1 in
-    let first : n ≡ particle_count s = cc in
-    let second : p ≡ pair_count s = cc in
+    let f = all_pass (refusals i) (sym d.1) in
+    let a : ◌≡◌ {A = Result Counts Refusal} (Ok c) (Ok (counts_of (particle_count s) (pair_count s))) = ap (λ (o : Out). o.answer) t.1 in
+    let same : c ≡ counts_of (particle_count s) (pair_count s) = cc in
+    let first : c.n ≡ particle_count s = ap (λ (x : Counts). x.n) same in
+    let second : c.pairs ≡ pair_count s = ap (λ (x : Counts). x.pairs) same in
     let holds : z ≡ pair_numbers s ++ drop (2 * pair_count s) room = ap (λ (o : Out). o.room) t.1 in
     record {
       zero = t.0;
@@ -51,16 +58,13 @@ accepted_of s room z n p r =
       front = rw (second, holds) (take_at (pair_numbers s) (drop (2 * pair_count s) room) (2 * pair_count s) (pair_numbers_lem s d.0));
     }
 
-refused_case : (i : In) (q k : ℕ) (z : List ℕ) → left (Refused k) z ≡ by q (work i) (λ k. refuse k i) → (q ≡ k) × (0 < k)
+refused_case : (i : In) (v : Verdict) (k : Refusal) (z : List ℕ) → left (Err k) z ≡ by v (work i) (λ k. refuse k i) → v ≡ Err k
 unfolding work
-refused_case i zero k z e =
-    absurd (let a : Refused k ≡ Text (particle_count i.text) (pair_count i.text) = ap (λ (o : Out). o.answer) e in let z : ◌≡◌ {A = ℕ} 0 1 = cc
-    in omega arith)
-refused_case i (suc q) k z e =
-    let a : Refused k ≡ Refused (suc q) = ap (λ (o : Out). o.answer) e in
-    let s : suc q ≡ k = cc in
-    (s, omega arith)
+refused_case i (Ok tt) k z e = no_both _ k (sym (ap (λ (o : Out). o.answer) e))
+refused_case i (Err j) k z e =
+    let a : ◌≡◌ {A = Result Counts Refusal} (Err k) (Err j) = ap (λ (o : Out). o.answer) e in
+    cc
 
-pub refused_of : (s room z : List ℕ) (k : ℕ) → Reads (given s room) (left (Refused k) z) → (number_of (given s room) ≡ k) × (0 < k)
+pub refused_of : (s room z : List ℕ) (k : Refusal) → Reads (given s room) (left (Err k) z) → verdict_of (given s room) ≡ Err k
 unfolding outcome_by
-refused_of s room z k r = refused_case (given s room) (number_of (given s room)) k z r
+refused_of s room z k r = refused_case (given s room) (verdict_of (given s room)) k z r

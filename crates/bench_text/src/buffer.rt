@@ -16,6 +16,7 @@ pub fn read_full<R: Read>(reader: &mut R, buffer: &mut [u8]) -> io::Result<usize
     ensures given { (n : ℕ) × ((n ≤ length buffer.new)
         × Consumes (R.remaining reader.old) (R.remaining reader.new) (take n buffer.new)) }
 {
+    // Reads until the buffer is full or the input ends: no count by one, and std's own say little of what a failed read leaves.
     let mut at = 0usize;
     while at < buffer.len() {
         let n = reader.read(&mut buffer[at..])?;

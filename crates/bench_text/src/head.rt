@@ -2,36 +2,28 @@
 ghost use Rattle.std.specs.Prelude.{◌≡◌};
 ghost use Rattle.bench_text.specs.Head.{head_of, counted_of};
 
-use bench_scan::inner::Scan;
-
-#[derive(Clone, Copy)]
-pub enum Head {
-    None,
-    Counts(usize, usize),
-}
+use crate::inner::Counts;
+use bench_scan::inner::Stand;
 
 // k numbers are just right for the pair count.
-fn counts(k: usize, n: u32, pairs: u32) -> Head
+#[tactic(auto, unfolding(crate::specs::Head::counted_of))]
+fn counts(k: usize, n: u32, pairs: u32) -> Option<Counts>
     ensures { result ≡ counted_of k n pairs }
 {
-    let p = law::wide(pairs);
-    if k == 2 + 2 * p {
-        return Head::Counts(law::wide(n), p);
-    }
-    Head::None
+    let n = law::wide(n);
+    let pairs = law::wide(pairs);
+    (k == 2 + 2 * pairs).then_some(Counts { n, pairs })
 }
 
-pub fn head_of(text: &[u8]) -> Head
+pub fn head_of(text: &[u8]) -> Option<Counts>
     ensures { result ≡ head_of text.now }
 {
     if law::BYTES < text.len() {
-        return Head::None;
+        return None;
     }
     let mut two = [0u32; 2];
-    let s = bench_scan::inner::scanned(text, 0, &mut two);
-    match s {
-        Scan::Bad => Head::None,
-        Scan::Word(_, _) => Head::None,
-        Scan::Gap(k) => counts(k, two[0], two[1]),
+    match bench_scan::inner::scanned(text, 0, &mut two)? {
+        Stand::Gap(k) => counts(k, two[0], two[1]),
+        Stand::Word(_, _) => None,
     }
 }

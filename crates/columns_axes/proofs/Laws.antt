@@ -15,13 +15,15 @@ use Rattle.law.specs.Store.{written, written_long, length_part}
 use Rattle.law.specs.Loop.{fold, over}
 use Rattle.plane.specs.Plane.{zero32, one32}
 use Rattle.matrix_shape.specs.Rows.{at}
+use Rattle.std.specs.Prelude.{Ok}
+use Rattle.step_entries.specs.Lent.{entered}
 use Rattle.step_tally.specs.declared.Tally.{Tally}
 use Rattle.step_tally.specs.Count.{counted_of}
 use Rattle.step_response.specs.declared.Responded.{Responded}
 use Rattle.step_response.specs.Responding as R
 use Rattle.step_counts.specs.Counting.{asked_by}
 use Rattle.columns_table.specs.Columns.{start_of, column_of, column_inside}
-use Rattle.columns_axes.specs.Axes.{In, Held, given, held, axis_of, after_axis, axis_made, particle_made, Ready, solvable_for}
+use Rattle.columns_axes.specs.Axes.{In, Held, given, handed_system, handed_table, held, axis_of, after_axis, axis_made, particle_made, Ready, solvable_for}
 
 -- a part of a buffer handed back
 back : {A : Type 0} (l v : List A) (a b : ℕ) → a ≤ b → b ≤ length l → length v ≡ b - a → take a l ++ (v ++ drop (b - a) (drop a l)) ≡ written l a v
@@ -62,9 +64,7 @@ module _ (i : In) (y : Ready i) where
 
     -- the response with the one entry: f is its gradient, o the column's part of the buffer
     abbrev pub response : List Float → List Float → R.In
-    response f o = R.given i.n i.row_offsets i.cols i.diagonal i.blocks i.perm i.inv_perm i.first i.row_start i.values
-        i.factored i.preconditioner i.tolerance i.max_iterations i.max_dense_dofs i.pinned 1 (p ∷ []) f o i.rhs i.scratch
-        i.residual i.direction i.a_direction i.z
+    response f o = R.given (handed_system i) i.pinned (entered 1 (p ∷ []) f) o i.rhs i.scratch i.residual i.direction i.a_direction i.z
 
     long : length (column_of i.n i.columns w k) ≡ (start_of i.n w k + 2 * i.n) - start_of i.n w k
     long = length_part (start_of i.n w k) (start_of i.n w k + 2 * i.n) i.columns (omega arith) in_buffer
@@ -97,8 +97,8 @@ module _ (i : In) (y : Ready i) where
     -- what it leaves: o is the column's part then, lent and own are the two records
     pub axis_is : (u v : Float) (how : Responded) (o h s r d a z : List Float) (t lent own : Tally) → u ≡ cond (eqb k 0) one32 zero32
         → v ≡ cond (eqb k 1) one32 zero32 → length o ≡ length (column_of i.n i.columns w k)
-        → R.left how o h s r d a z ≡ R.work (response (u ∷ v ∷ []) (column_of i.n i.columns w k))
-        → (lent ≡ counted_of i.tally (asked_by how)) × (own ≡ counted_of t (asked_by how))
+        → R.left (Ok how) o h s r d a z ≡ R.work (response (u ∷ v ∷ []) (column_of i.n i.columns w k))
+        → (lent ≡ counted_of i.tally (asked_by (Ok how))) × (own ≡ counted_of t (asked_by (Ok how)))
         → held (take (start_of i.n w k) i.columns ++ (o ++ drop ((start_of i.n w k + 2 * i.n) - start_of i.n w k)
         (drop (start_of i.n w k) i.columns))) h s r d a z lent own ≡ axis_made i p k (start t)
     unfolding axis_made
@@ -112,8 +112,7 @@ module _ (i : In) (y : Ready i) where
 
   module _ (c h s r d a z : List Float) (t : Tally) where
     abbrev pub onward : In
-    onward = given i.n i.row_offsets i.cols i.diagonal i.blocks i.perm i.inv_perm i.first i.row_start i.values
-        i.factored i.preconditioner i.tolerance i.max_iterations i.max_dense_dofs i.pinned i.loaded i.column_of c h s r d a z t
+    onward = given (handed_system i) (handed_table i) c h s r d a z t
 
     pub still_ready : length c ≡ length i.columns → length h ≡ length i.rhs → length s ≡ length i.scratch → length r ≡ length i.residual
         → length d ≡ length i.direction → length a ≡ length i.a_direction → length z ≡ length i.z → Ready onward

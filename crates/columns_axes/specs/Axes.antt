@@ -6,11 +6,16 @@ use Rattle.law.specs.Limit.{unloaded}
 use Rattle.law.specs.Store.{written}
 use Rattle.plane.specs.Plane.{zero32, one32}
 use Rattle.matrix_shape.specs.Rows.{at}
+use Rattle.matrix_shape.specs.Shape.{shape}
+use Rattle.plan_fits.specs.Layout.{layout}
+use Rattle.step_routes.specs.System.{Sys, system}
+use Rattle.step_entries.specs.Lent.{entered}
 use Rattle.step_tally.specs.declared.Tally.{Tally}
 use Rattle.step_tally.specs.Count.{counted_of}
 use Rattle.step_solve.specs.Stepping as S
 use Rattle.step_response.specs.Responding as R
 use Rattle.step_counts.specs.Counting.{asked_by}
+use Rattle.columns_table.specs.Lent.{Numbering, numbering}
 use Rattle.columns_table.specs.Table.{Numbered}
 use Rattle.columns_table.specs.Columns.{start_of, column_of, columns_need}
 
@@ -42,37 +47,44 @@ pub record In : Type 0 where
   pub z : List Float
   pub tally : Tally
 
-abbrev pub given : ℕ → List ℕ → List ℕ → List ℕ → List Float → List ℕ → List ℕ → List ℕ → List ℕ → List Float → Bool → List Float → Float → ℕ → ℕ
-    → List ℕ → ℕ → List ℕ → List Float → List Float → List Float → List Float → List Float → List Float → List Float → Tally → In
-given n starts cols diagonal blocks perm inverse first begins values factored preconditioner tolerance limit max_dense_dofs pinned loaded table columns
-    rhs scratch residual direction a_direction z tally = record {
-      n = n;
-      row_offsets = starts;
-      cols = cols;
-      diagonal = diagonal;
-      blocks = blocks;
-      perm = perm;
-      inv_perm = inverse;
-      first = first;
-      row_start = begins;
-      values = values;
-      factored = factored;
-      preconditioner = preconditioner;
-      tolerance = tolerance;
-      max_iterations = limit;
-      max_dense_dofs = max_dense_dofs;
-      pinned = pinned;
-      loaded = loaded;
-      column_of = table;
-      columns = columns;
-      rhs = rhs;
-      scratch = scratch;
-      residual = residual;
-      direction = direction;
-      a_direction = a_direction;
-      z = z;
-      tally = tally;
-    }
+abbrev pub given : Sys → Numbering → List Float → List Float → List Float → List Float → List Float → List Float → List Float → Tally → In
+given s t columns rhs scratch residual direction a_direction z tally = record {
+  n = s.shape.n;
+  row_offsets = s.shape.row_offsets;
+  cols = s.shape.cols;
+  diagonal = s.shape.diagonal;
+  blocks = s.blocks;
+  perm = s.layout.perm;
+  inv_perm = s.layout.inv_perm;
+  first = s.layout.first;
+  row_start = s.layout.row_start;
+  values = s.values;
+  factored = s.factored;
+  preconditioner = s.preconditioner;
+  tolerance = s.tolerance;
+  max_iterations = s.max_iterations;
+  max_dense_dofs = s.max_dense_dofs;
+  pinned = t.pinned;
+  loaded = t.loaded;
+  column_of = t.column_of;
+  columns = columns;
+  rhs = rhs;
+  scratch = scratch;
+  residual = residual;
+  direction = direction;
+  a_direction = a_direction;
+  z = z;
+  tally = tally;
+}
+
+-- the system and the table of what it is handed
+abbrev pub handed_system : In → Sys
+handed_system i =
+    system (shape i.n i.row_offsets i.cols i.diagonal) i.blocks (layout i.perm i.inv_perm i.first i.row_start) i.values i.factored i.preconditioner
+    i.tolerance i.max_iterations i.max_dense_dofs
+
+abbrev pub handed_table : In → Numbering
+handed_table i = numbering i.pinned i.loaded i.column_of
 
 -- whether the plan and the factor count
 abbrev pub dense : In → Bool
@@ -109,8 +121,7 @@ axis_of k = cond (eqb k 0) (one32 ∷ zero32 ∷ []) (zero32 ∷ one32 ∷ [])
 
 -- the response that is particle p's column along axis k: one entry, into its part of the columns
 abbrev pub for_axis : In → ℕ → ℕ → Held → R.In
-for_axis i p k s = R.given i.n i.row_offsets i.cols i.diagonal i.blocks i.perm i.inv_perm i.first i.row_start i.values
-    i.factored i.preconditioner i.tolerance i.max_iterations i.max_dense_dofs i.pinned 1 (p ∷ []) (axis_of k)
+for_axis i p k s = R.given (handed_system i) i.pinned (entered 1 (p ∷ []) (axis_of k))
     (column_of i.n s.columns (at i.column_of p) k) s.rhs s.scratch s.residual s.direction s.a_direction s.z
 
 -- after that response: its out is stored, and the step solve counted
@@ -128,9 +139,7 @@ particle_made i p s = cond (eqb (at i.column_of p) unloaded) s (axis_made i p 1 
 
 -- a step solve, with rhs for its b and for its x
 abbrev pub for_step : In → S.In
-for_step i = S.given i.n i.row_offsets i.cols i.diagonal i.blocks i.perm i.inv_perm i.first i.row_start i.values
-    i.factored i.preconditioner i.rhs i.tolerance i.max_iterations i.max_dense_dofs i.rhs i.scratch i.residual
-    i.direction i.a_direction i.z
+for_step i = S.given (handed_system i) i.rhs i.rhs i.scratch i.residual i.direction i.a_direction i.z
 
 pub record Ready (i : In) : Type 0 where
   pub solvable : S.Ready (for_step i)
@@ -142,8 +151,7 @@ pub record Ready (i : In) : Type 0 where
 -- a step solve asks nothing of its lists but their lengths
 pub solvable_for : (i : S.In) (b x w r d a z : List Float) → S.Ready i → 2 * i.n ≤ length b → 2 * i.n ≤ length x → length w ≡ length i.scratch
     → length r ≡ length i.residual → length d ≡ length i.direction → length a ≡ length i.a_direction → length z ≡ length i.z
-    → S.Ready (S.given i.n i.row_offsets i.cols i.diagonal i.blocks i.perm i.inv_perm i.first i.row_start i.values
-    i.factored i.preconditioner b i.tolerance i.max_iterations i.max_dense_dofs x w r d a z)
+    → S.Ready (S.given (S.handed_system i) b x w r d a z)
 solvable_for i b x w r d a z p hb hx hw hr hd ha hz =
     let g = p.iterable in
     record {

@@ -1,11 +1,12 @@
 -- THE DOOR `particle_block_from_columns`: both columns of a particle, copied, and the block of their values at the particle, symmetrised.
-use Rattle.std.specs.Prelude.{ℕ, ◌+◌, ◌*◌, ◌-◌, ◌≤◌, ◌<◌, ◌≡◌, true, cond, List, [], ◌∷◌, ◌++◌, leb, ltb, eqb, length, take, drop, Float}
+use Rattle.std.specs.Prelude.{ℕ, ◌+◌, ◌*◌, ◌-◌, ◌≤◌, ◌<◌, ◌≡◌, true, cond, List, [], ◌∷◌, ◌++◌, leb, ltb, eqb, length, take, drop, Float, Result, Ok, Err, Option, None, Some}
 use Rattle.std.proofs.Common.{ap, sym, ◌∙◌, append-nil, append_assoc, arith, length-drop, length-take-le, take_all, take_at, drop_at, drop-drop, leb-true, ltb-true, eq-eqb, ne_eqb}
 use Rattle.std.proofs.Math.Seq.{drop-length}
 use Rattle.std.specs.Float.{binary32}
 use Rattle.std.specs.Float.Ieee.{of_bits}
 use Rattle.law.specs.Limit.{particles, unloaded}
-use Rattle.law.specs.Number.{too_many_particles, short_buffer, out_of_range, bad_plan}
+use Rattle.law.specs.declared.refusal.Refusal.{Refusal}
+use Rattle.law.specs.declared.refusal.Refusal.TheVariants.{TooManyParticles, ShortBuffer, OutOfRange, BadPlan}
 use Rattle.law.specs.Loop.{fold, over}
 use Rattle.law.specs.Gather.{gather}
 use Rattle.law.specs.Mix.{mix}
@@ -21,13 +22,12 @@ use Rattle.plane.specs.Lent.{vector_at}
 use Rattle.matrix_shape.specs.Rows.{at}
 use Rattle.gradient_definition.specs.Vectors.{copied_is}
 use Rattle.step_routes.specs.Dense.{cleared}
+use Rattle.columns_table.specs.Lent.{Numbering}
 use Rattle.columns_table.specs.Table.{table_ok}
 use Rattle.columns_table.specs.Columns.{column_of}
-use Rattle.columns_block.specs.declared.ParticleBlock.{ParticleBlock}
-use Rattle.columns_block.specs.declared.ParticleBlock.TheVariants as answers
 use Rattle.columns_block.specs.Said.{block_said}
 use Rattle.columns_combine.specs.Combining.{columns_room}
-use Rattle.columns_combine.specs.Readable.{Readable, readable_of, column_long}
+use Rattle.columns_combine.specs.Readable.{Readable, Stored, readable_of, stored_long}
 
 pub record In : Type 0 where
   pub n : ℕ
@@ -39,25 +39,25 @@ pub record In : Type 0 where
   pub out : List Float
 
 pub record Out : Type 0 where
-  pub answer : ParticleBlock
+  pub answer : Result (Option Block) Refusal
   pub said : Said
   pub out : List Float
 
-abbrev pub given : ℕ → List ℕ → ℕ → List ℕ → List Float → ℕ → List Float → In
-given n pinned loaded table columns particle out =
-    record { n = n; pinned = pinned; loaded = loaded; column_of = table; columns = columns; particle = particle; out = out }
+abbrev pub given : ℕ → Numbering → List Float → ℕ → List Float → In
+given n t columns particle out =
+    record { n = n; pinned = t.pinned; loaded = t.loaded; column_of = t.column_of; columns = columns; particle = particle; out = out }
 
-abbrev pub left : ParticleBlock → List Float → Out
+abbrev pub left : Result (Option Block) Refusal → List Float → Out
 left r out = record { answer = r; said = block_said r; out = out }
 
 -- THE REFUSALS
 unfoldable pub refusals : In → List Test
 refusals i =
-    unless too_many_particles (leb i.n particles)
-    ∷ unless short_buffer (leb i.n (length i.pinned))
-    ∷ unless short_buffer (enough true (columns_room i.n i.loaded i.column_of i.columns (4 * i.n) i.out))
-    ∷ unless out_of_range (ltb i.particle i.n)
-    ∷ unless bad_plan (table_ok i.n i.pinned i.loaded i.column_of)
+    unless TooManyParticles (leb i.n particles)
+    ∷ unless ShortBuffer (leb i.n (length i.pinned))
+    ∷ unless ShortBuffer (enough true (columns_room i.n i.loaded i.column_of i.columns (4 * i.n) i.out))
+    ∷ unless OutOfRange (ltb i.particle i.n)
+    ∷ unless BadPlan (table_ok i.n i.pinned i.loaded i.column_of)
     ∷ []
 
 pub in_order : (i : In) → Rising 1 (refusals i)
@@ -74,9 +74,6 @@ transposed m = pair (pair (x (c0 m)) (x (c1 m))) (pair (y (c0 m)) (y (c1 m)))
 unfoldable pub symmetrised : Block → Block
 symmetrised m = pair (scale_of (add_of (c0 m) (c0 (transposed m))) half32) (scale_of (add_of (c1 m) (c1 (transposed m))) half32)
 
-abbrev pub answer_of : Block → ParticleBlock
-answer_of m = answers.Block (x (c0 m)) (y (c0 m)) (x (c1 m)) (y (c1 m))
-
 -- the block of the two columns' values at particle p
 abbrev pub block_for : ℕ → List Float → ℕ → ℕ → Block
 block_for n columns c p = symmetrised (pair (vector_at (column_of n columns c 0) p) (vector_at (column_of n columns c 1) p))
@@ -88,14 +85,14 @@ copied n columns c out = mix (2 * n) 2 (λ k. column_of n columns c k) out
 unfoldable pub work : In → Out
 work i =
     cond (eqb (at i.pinned i.particle) 0)
-    (cond (eqb (at i.column_of i.particle) unloaded) (left answers.NotLoaded i.out)
-    (left (answer_of (block_for i.n i.columns (at i.column_of i.particle) i.particle))
+    (cond (eqb (at i.column_of i.particle) unloaded) (left (Ok None) i.out)
+    (left (Ok (Some (block_for i.n i.columns (at i.column_of i.particle) i.particle)))
     (copied i.n i.columns (at i.column_of i.particle) i.out)))
-    (left (answer_of (pair zero_of zero_of)) (cleared (2 * i.n) i.out))
+    (left (Ok (Some (pair zero_of zero_of))) (cleared (2 * i.n) i.out))
 
 -- a refusal changes nothing
 abbrev pub door : Door In Out
-door = record { tests = refusals; in_order = in_order; work = work; refuse = λ k i. left (answers.Refused k) i.out }
+door = record { tests = refusals; in_order = in_order; work = work; refuse = λ k i. left (Err k) i.out }
 
 -- ---- what the work requires
 
@@ -105,10 +102,10 @@ pub record Ready (i : In) : Type 0 where
   pub inside : i.particle < i.n
   pub room : 4 * i.n ≤ length i.out
 
-pub ready : (i : In) → verdict (refusals i) ≡ 0 → Ready i
+pub ready : (i : In) → Ok tt ≡ verdict (refusals i) → Ready i
 unfolding refusals columns_room
 ready i h =
-    let p = all_pass 1 (refusals i) (omega arith) (in_order i) h in
+    let p = all_pass (refusals i) h in
     let q = p.1.1 in
     let r = enough_is true (columns_room i.n i.loaded i.column_of i.columns (4 * i.n) i.out) q.0 in
     record {
@@ -144,16 +141,16 @@ two_copies n a b out m r la lb lm room h g =
 pub rest_long : (n : ℕ) (out m : List Float) → length m ≡ length out → 4 * n ≤ length out → 2 * n ≤ length (take (length m - 2 * n) (drop (2 * n) m))
 rest_long n out m e h = rw (length-take-le (length m - 2 * n) (drop (2 * n) m) (rw length-drop (omega arith))) (omega arith)
 
-pub both_copied : (n : ℕ) (table : List ℕ) (columns : List Float) (p : ℕ) (a b out m r : List Float) → Readable n table columns
-    → (p < n) × (at table p ≡ unloaded → ⊥) × (4 * n ≤ length out) → a ≡ column_of n columns (at table p) 0 → b ≡ column_of n columns (at table p) 1
+pub both_copied : (n c : ℕ) (columns : List Float) (a b out m r : List Float) → Stored n c columns → 4 * n ≤ length out
+    → a ≡ column_of n columns c 0 → b ≡ column_of n columns c 1
     → length m ≡ length out → m ≡ mix 2 n (vector_at a) out → r ≡ mix 2 n (vector_at b) (take (length m - 2 * n) (drop (2 * n) m))
-    → take (2 * n) m ++ (r ++ drop (length m - 2 * n) (drop (2 * n) m)) ≡ copied n columns (at table p) out
+    → take (2 * n) m ++ (r ++ drop (length m - 2 * n) (drop (2 * n) m)) ≡ copied n columns c out
 unfolding copied gather over fold
-both_copied n table columns p a b out m r w h ea eb lm f g =
-    let la = column_long n table columns p 0 a w h.0 (omega arith) h.1 ea in
-    let lb = column_long n table columns p 1 b w h.0 (omega arith) h.1 eb in
+both_copied n c columns a b out m r w h ea eb lm f g =
+    let la = stored_long n c columns 0 a w (omega arith) ea in
+    let lb = stored_long n c columns 1 b w (omega arith) eb in
     let four : 4 * n ≡ 2 * n * 2 = omega arith in
-    two_copies n a b out m r la lb lm h.2 f g ∙ rw (ea, eb, four, append_assoc)
+    two_copies n a b out m r la lb lm h f g ∙ rw (ea, eb, four, append_assoc)
 
 -- ---- the block as it is read: u and v are the columns' values at the particle
 
@@ -164,16 +161,16 @@ block_is n columns c p a b u v m ea eb eu ev h = h ∙ rw (eu, ev, ea, eb)
 -- ---- the three ends
 
 pub is_pinned : (i : In) (o : List Float) → (at i.pinned i.particle ≡ 0 → ⊥) → o ≡ cleared (2 * i.n) i.out
-    → left (answer_of (pair zero_of zero_of)) o ≡ work i
+    → left (Ok (Some (pair zero_of zero_of))) o ≡ work i
 unfolding work
 is_pinned i o h e = rw (ne_eqb _ _ h, e)
 
-pub not_loaded : (i : In) → at i.pinned i.particle ≡ 0 → at i.column_of i.particle ≡ unloaded → left answers.NotLoaded i.out ≡ work i
+pub not_loaded : (i : In) → at i.pinned i.particle ≡ 0 → at i.column_of i.particle ≡ unloaded → left (Ok None) i.out ≡ work i
 unfolding work
 not_loaded i h u = rw (eq-eqb _ _ h, eq-eqb _ _ u)
 
 pub is_block : (i : In) (o : List Float) (m : Block) → at i.pinned i.particle ≡ 0 → (at i.column_of i.particle ≡ unloaded → ⊥)
     → o ≡ copied i.n i.columns (at i.column_of i.particle) i.out
-    → m ≡ block_for i.n i.columns (at i.column_of i.particle) i.particle → left (answer_of m) o ≡ work i
+    → m ≡ block_for i.n i.columns (at i.column_of i.particle) i.particle → left (Ok (Some m)) o ≡ work i
 unfolding work
 is_block i o m h u e f = rw (eq-eqb _ _ h, ne_eqb _ _ u, e, f)

@@ -1,15 +1,15 @@
 // A particle's own block: both its columns copied, and the block of their values at the particle, symmetrised.
-ghost use Rattle.std.specs.Prelude.{◌≡◌, ◌*◌, ◌≤◌, ◌<◌, length};
-ghost use Rattle.law.specs.Limit.{unloaded};
-ghost use Rattle.matrix_shape.specs.Rows.{at};
-ghost use Rattle.columns_combine.specs.Readable.{Readable};
-ghost use Rattle.columns_block.specs.Blocking.{symmetrised, block_for, copied, answer_of, given, left, Ready, work};
+ghost use Rattle.std.specs.Prelude.{◌≡◌, ◌*◌, ◌≤◌, ◌<◌, length, Ok};
+ghost use Rattle.columns_table.specs.Lent.{numbers_of};
+ghost use Rattle.columns_combine.specs.Readable.{Stored};
+ghost use Rattle.columns_block.specs.Blocking.{symmetrised, block_for, copied, given, left, Ready, work};
 
-use crate::ParticleBlock;
 use columns_combine::column::column;
+use columns_table::table::Table;
 use plane::Block;
 
 // (M + Mᵀ)·0.5, entry by entry.
+#[tactic(auto, unfolding(crate::specs::Blocking::symmetrised))]
 fn symmetrise(m: Block) -> Block
     ensures { result ≡ symmetrised m }
 {
@@ -20,58 +20,44 @@ fn symmetrise(m: Block) -> Block
 }
 
 // The block of both columns' values at particle p.
-fn own_block(n: usize, column_of: &[u32], columns: &[f32], p: usize) -> Block
-    requires readable { Readable n column_of.now columns.now }
-    requires p_lt_n { (p < n) × (at column_of.now p ≡ unloaded → ⊥) }
-    ensures { result ≡ block_for n columns.now (at column_of.now p) p }
+fn own_block(n: usize, c: usize, columns: &[f32], p: usize) -> Block
+    requires stored { Stored n c columns.now }
+    requires p_lt_n { p < n }
+    ensures { result ≡ block_for n columns.now c p }
 {
-    let u = vectors::inner::vector_at(column(n, column_of, columns, p, 0), p);
-    let v = vectors::inner::vector_at(column(n, column_of, columns, p, 1), p);
+    let u = vectors::inner::vector_at(column(n, c, columns, 0), p);
+    let v = vectors::inner::vector_at(column(n, c, columns, 1), p);
     symmetrise([u, v])
 }
 
 // Both columns over the front of out, axis 0 first.
-fn copy_both(n: usize, column_of: &[u32], columns: &[f32], p: usize, out: &mut [f32])
-    requires readable { Readable n column_of.now columns.now }
-    requires p_lt_n { (p < n) × (at column_of.now p ≡ unloaded → ⊥) × (4 * n ≤ length out.old) }
-    ensures { out.new ≡ copied n columns.now (at column_of.now p) out.old }
+fn copy_both(n: usize, c: usize, columns: &[f32], out: &mut [f32])
+    requires stored { Stored n c columns.now }
+    requires n_in_bounds { 4 * n ≤ length out.old }
+    ensures { out.new ≡ copied n columns.now c out.old }
 {
     let m = 2 * n;
-    vectors::inner::copy(n, column(n, column_of, columns, p, 0), out);
-    vectors::inner::copy(n, column(n, column_of, columns, p, 1), &mut out[m..]);
+    vectors::inner::copy(n, column(n, c, columns, 0), out);
+    vectors::inner::copy(n, column(n, c, columns, 1), &mut out[m..]);
 }
 
-fn answer(m: Block) -> ParticleBlock
-    ensures { result ≡ answer_of m }
-{
-    ParticleBlock::Block {
-        c0x: m[0][0],
-        c0y: m[0][1],
-        c1x: m[1][0],
-        c1y: m[1][1],
-    }
-}
-
+// Zeros for a pinned particle; none for one that isn't loaded.
+#[tactic(auto, unfolding(crate::specs::Blocking::work), using(columns_combine::specs::Readable::stored_of))]
 pub fn block(
     n: usize,
-    pinned: &[u8],
-    loaded: usize,
-    column_of: &[u32],
+    table: &Table,
     columns: &[f32],
     particle: usize,
     out: &mut [f32],
-) -> ParticleBlock
-    requires { Ready (given n pinned.now loaded column_of.now columns.now particle out.old) }
-    ensures { left result out.new ≡ work
-        (given n pinned.now loaded column_of.now columns.now particle out.old) }
+) -> Option<Block>
+    requires { Ready (given n (numbers_of table.now) columns.now particle out.old) }
+    ensures { left (Ok result) out.new ≡ work (given n (numbers_of table.now) columns.now particle out.old) }
 {
-    if pinned[particle] != 0 {
+    if table.pinned[particle] != 0 {
         vectors::inner::clear(2 * n, out);
-        return answer([[0.0, 0.0], [0.0, 0.0]]);
+        return Some([[0.0, 0.0], [0.0, 0.0]]);
     }
-    if column_of[particle] == law::UNLOADED {
-        return ParticleBlock::NotLoaded;
-    }
-    copy_both(n, column_of, columns, particle, out);
-    answer(own_block(n, column_of, columns, particle))
+    let c = table.column(particle)?;
+    copy_both(n, c, columns, out);
+    Some(own_block(n, c, columns, particle))
 }

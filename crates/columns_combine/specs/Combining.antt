@@ -1,8 +1,9 @@
 -- THE DOOR `response_from_columns`: what it is handed, its refusals, and what it answers and leaves. Columns are read as they stand.
-use Rattle.std.specs.Prelude.{ℕ, ◌*◌, ◌≤◌, ◌≡◌, Bool, true, false, cond, List, [], ◌∷◌, leb, length, Float}
+use Rattle.std.specs.Prelude.{ℕ, ◌*◌, ◌≤◌, ◌≡◌, Bool, true, false, cond, List, [], ◌∷◌, leb, length, Float, Result, Ok, Err}
 use Rattle.std.proofs.Common.{ap, ◌∙◌, arith, leb-true}
 use Rattle.law.specs.Limit.{particles, entries}
-use Rattle.law.specs.Number.{too_many_particles, too_many_entries, short_buffer, out_of_range, bad_plan}
+use Rattle.law.specs.declared.refusal.Refusal.{Refusal}
+use Rattle.law.specs.declared.refusal.Refusal.TheVariants.{TooManyParticles, TooManyEntries, ShortBuffer, OutOfRange, BadPlan}
 use Rattle.law.specs.Room.{Room, enough}
 use Rattle.law.proofs.Room.{enough_is}
 use Rattle.law.specs.Refusal.{Test, unless, Rising, verdict}
@@ -11,10 +12,12 @@ use Rattle.law.specs.Promise.{Door}
 use Rattle.law.specs.Said.{Said}
 use Rattle.step_routes.specs.Dense.{cleared}
 use Rattle.step_entries.specs.Entries.{entries_room, below, any_free, raw_gain, gain_of, Entries, entries_of}
+use Rattle.step_entries.specs.Lent.{Entered}
+use Rattle.columns_table.specs.Lent.{Numbering}
 use Rattle.columns_table.specs.Table.{table_ok}
 use Rattle.columns_table.specs.Columns.{columns_need}
 use Rattle.columns_combine.specs.declared.Combined.{Combined}
-use Rattle.columns_combine.specs.declared.Combined.TheVariants.{Refused, NotLoaded, Nothing, Gain}
+use Rattle.columns_combine.specs.declared.Combined.TheVariants.{NotLoaded, Nothing, Gain}
 use Rattle.columns_combine.specs.Said.{combined_said}
 use Rattle.columns_combine.specs.Summed.{Sum, sum_of, summed}
 use Rattle.columns_combine.specs.Readable.{Readable, readable_of}
@@ -31,24 +34,24 @@ pub record In : Type 0 where
   pub out : List Float
 
 pub record Out : Type 0 where
-  pub answer : Combined
+  pub answer : Result Combined Refusal
   pub said : Said
   pub out : List Float
 
-abbrev pub given : ℕ → List ℕ → ℕ → List ℕ → List Float → ℕ → List ℕ → List Float → List Float → In
-given n pinned loaded table columns count particles gradients out = record {
+abbrev pub given : ℕ → Numbering → List Float → Entered → List Float → In
+given n table columns entries out = record {
   n = n;
-  pinned = pinned;
-  loaded = loaded;
-  column_of = table;
+  pinned = table.pinned;
+  loaded = table.loaded;
+  column_of = table.column_of;
   columns = columns;
-  count = count;
-  particles = particles;
-  gradients = gradients;
+  count = entries.count;
+  particles = entries.particles;
+  gradients = entries.gradients;
   out = out;
 }
 
-abbrev pub left : Combined → List Float → Out
+abbrev pub left : Result Combined Refusal → List Float → Out
 left r out = record { answer = r; said = combined_said r; out = out }
 
 -- what table, columns and out need, and what they have; w is out's need
@@ -58,12 +61,12 @@ columns_room n loaded table columns w out = (n, length table) ∷ (columns_need 
 -- THE REFUSALS
 unfoldable pub refusals : In → List Test
 refusals i =
-    unless too_many_particles (leb i.n particles)
-    ∷ unless too_many_entries (leb i.count entries)
-    ∷ unless short_buffer (enough true (columns_room i.n i.loaded i.column_of i.columns (2 * i.n) i.out))
-    ∷ unless short_buffer (enough true (entries_room i.n i.pinned i.count i.particles i.gradients))
-    ∷ unless out_of_range (below i.n i.count i.particles)
-    ∷ unless bad_plan (table_ok i.n i.pinned i.loaded i.column_of)
+    unless TooManyParticles (leb i.n particles)
+    ∷ unless TooManyEntries (leb i.count entries)
+    ∷ unless ShortBuffer (enough true (columns_room i.n i.loaded i.column_of i.columns (2 * i.n) i.out))
+    ∷ unless ShortBuffer (enough true (entries_room i.n i.pinned i.count i.particles i.gradients))
+    ∷ unless OutOfRange (below i.n i.count i.particles)
+    ∷ unless BadPlan (table_ok i.n i.pinned i.loaded i.column_of)
     ∷ []
 
 pub in_order : (i : In) → Rising 1 (refusals i)
@@ -82,11 +85,11 @@ answer_of i s =
     (Gain (gain_of (raw_gain i.pinned i.count i.particles i.gradients s.out))) Nothing)
 
 unfoldable pub work : In → Out
-work i = left (answer_of i (sum_for i)) (sum_for i).out
+work i = left (Ok (answer_of i (sum_for i))) (sum_for i).out
 
 -- a refusal changes nothing
 abbrev pub door : Door In Out
-door = record { tests = refusals; in_order = in_order; work = work; refuse = λ k i. left (Refused k) i.out }
+door = record { tests = refusals; in_order = in_order; work = work; refuse = λ k i. left (Err k) i.out }
 
 -- ---- what the tests of room say, once they have passed
 
@@ -107,10 +110,10 @@ pub record Ready (i : In) : Type 0 where
   pub entered : Entries i.n i.pinned i.count i.particles i.gradients
   pub room : 2 * i.n ≤ length i.out
 
-pub ready : (i : In) → verdict (refusals i) ≡ 0 → Ready i
+pub ready : (i : In) → Ok tt ≡ verdict (refusals i) → Ready i
 unfolding refusals columns_room
 ready i h =
-    let p = all_pass 1 (refusals i) (omega arith) (in_order i) h in
+    let p = all_pass (refusals i) h in
     let q = p.1.1 in
     let r = enough_is true (columns_room i.n i.loaded i.column_of i.columns (2 * i.n) i.out) q.0 in
     record {
@@ -126,15 +129,15 @@ pub sum_is : (i : In) (m o : List Float) (t : Bool) → m ≡ cleared i.n i.out
 unfolding sum_for
 sum_is i m o t e h = h ∙ ap (summed i.n i.pinned i.column_of i.columns i.particles i.gradients i.count) e
 
-pub not_loaded : (i : In) (o : List Float) → sum_of o true ≡ sum_for i → left NotLoaded o ≡ work i
+pub not_loaded : (i : In) (o : List Float) → sum_of o true ≡ sum_for i → left (Ok NotLoaded) o ≡ work i
 unfolding work
 not_loaded i o e = rw (← e)
 
-pub nothing_left : (i : In) (o : List Float) → sum_of o false ≡ sum_for i → any_free i.pinned i.count i.particles ≡ false → left Nothing o ≡ work i
+pub nothing_left : (i : In) (o : List Float) → sum_of o false ≡ sum_for i → any_free i.pinned i.count i.particles ≡ false → left (Ok Nothing) o ≡ work i
 unfolding work
 nothing_left i o e f = rw (← e, f)
 
 pub gained : (i : In) (o : List Float) (raw gain : Float) → sum_of o false ≡ sum_for i → any_free i.pinned i.count i.particles ≡ true
-    → raw ≡ raw_gain i.pinned i.count i.particles i.gradients o → gain ≡ gain_of raw → left (Gain gain) o ≡ work i
+    → raw ≡ raw_gain i.pinned i.count i.particles i.gradients o → gain ≡ gain_of raw → left (Ok (Gain gain)) o ≡ work i
 unfolding work
 gained i o raw gain e f g h = rw (← e, f, h, g)

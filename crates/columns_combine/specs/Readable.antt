@@ -26,6 +26,21 @@ pub read_inside : (n : ℕ) (table : List ℕ) (columns : List Float) (p k c : �
     → (p < n) × (k < 2) × (at table p ≡ unloaded → ⊥) → c ≡ at table p → start_of n c k + 2 * n ≤ length columns
 read_inside n table columns p k c w h e = rw e (w.inside p k h.0 h.1 h.2)
 
+-- one column that can be read
+pub record Stored (n c : ℕ) (columns : List Float) : Type 0 where
+  pub few : n ≤ particles
+  pub number : c < unloaded
+  pub inside : (k : ℕ) → k < 2 → start_of n c k + 2 * n ≤ length columns
+
+pub stored_of : (n : ℕ) (table : List ℕ) (columns : List Float) (p c : ℕ) → Readable n table columns → p < n → (c ≡ at table p) × (c < unloaded)
+    → Stored n c columns
+stored_of n table columns p c w l h =
+    record { few = w.few; number = h.1; inside = λ k g. read_inside n table columns p k c w (l, g, (λ u. omega (arith, h.0, h.1))) h.0 }
+
+pub stored_long : (n c : ℕ) (columns : List Float) (k : ℕ) (d : List Float) → Stored n c columns → k < 2 → d ≡ column_of n columns c k → length d ≡ 2 * n
+stored_long n c columns k d w g e =
+    ap length e ∙ length_part (start_of n c k) (start_of n c k + 2 * n) columns (omega arith) (w.inside k g) ∙ omega arith
+
 -- a column has two floats to each particle
 pub column_long : (n : ℕ) (table : List ℕ) (columns : List Float) (p k : ℕ) (d : List Float) → Readable n table columns → p < n → k < 2
     → (at table p ≡ unloaded → ⊥) → d ≡ column_of n columns (at table p) k → length d ≡ 2 * n

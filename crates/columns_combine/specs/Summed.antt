@@ -1,6 +1,6 @@
 -- THE SUM OF COLUMNS: entry after entry, axis after axis, each column times its weight is added to out. A weight that equals 0.0, of either sign, is
 -- passed over before its column is looked for; where a column is missing the sum ends, and what was added before stays.
-use Rattle.std.specs.Prelude.{ℕ, ◌+◌, ◌*◌, ◌≡◌, Bool, true, false, cond, List, eqb, get_or, Float}
+use Rattle.std.specs.Prelude.{ℕ, ◌+◌, ◌*◌, ◌≡◌, Bool, true, false, cond, List, eqb, get_or, Float, Result, Ok, Err}
 use Rattle.std.proofs.Math.Nat.{add-zero}
 use Rattle.std.specs.Float.{nan}
 use Rattle.std.specs.Float.Ieee.{eq}
@@ -13,6 +13,7 @@ use Rattle.vectors.specs.Multiples.{advanced_at}
 use Rattle.matrix_shape.specs.Rows.{at}
 use Rattle.step_entries.specs.Entries.{free}
 use Rattle.columns_table.specs.Columns.{column_of}
+use Rattle.columns_combine.specs.declared.combine.NoColumn.{NoColumn}
 
 -- out so far, and whether a column was missing
 pub record Sum : Type 0 where
@@ -21,6 +22,11 @@ pub record Sum : Type 0 where
 
 abbrev pub sum_of : List Float → Bool → Sum
 sum_of out missing = record { out = out; missing = missing }
+
+-- as the code has it
+abbrev pub is_missing : Result (Unit {0}) NoColumn → Bool
+is_missing (Ok u) = false
+is_missing (Err e) = true
 
 -- going on from a sum, unless a column was missing
 abbrev pub and_then : Sum → (List Float → Sum) → Sum

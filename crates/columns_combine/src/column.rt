@@ -1,22 +1,15 @@
 // One axis of a loaded particle's column, as a part of the caller's list.
-ghost use Rattle.std.specs.Prelude.{◌≡◌, ◌<◌};
-ghost use Rattle.law.specs.Limit.{unloaded};
-ghost use Rattle.matrix_shape.specs.Rows.{at};
-ghost use Rattle.columns_table.specs.Columns as laid;
-ghost use Rattle.columns_combine.specs.Readable.{Readable};
+ghost use Rattle.std.specs.Prelude.{◌≡◌, ◌*◌, ◌<◌, length};
+ghost use Rattle.columns_table.specs.Columns.{column_of};
+ghost use Rattle.columns_combine.specs.Readable.{Stored};
 
-pub fn column<'t, 'a>(
-    n: usize,
-    column_of: &'t [u32],
-    columns: &'a [f32],
-    p: usize,
-    k: usize,
-) -> &'a [f32]
-    requires readable { Readable n column_of.now columns.now }
-    requires p_lt_n { (p < n) × (k < 2) × (at column_of.now p ≡ unloaded → ⊥) }
-    ensures { result.now ≡ laid.column_of n columns.now (at column_of.now p) k }
+pub fn column<'a>(n: usize, c: usize, columns: &'a [f32], k: usize) -> &'a [f32]
+    requires stored { Stored n c columns.now }
+    requires k_lt_2 { k < 2 }
+    ensures same { result.now ≡ column_of n columns.now c k }
+    ensures long { length result.now ≡ 2 * n }
 {
-    let start = 2 * ((2 * law::wide(column_of[p]) + k) * n);
+    let start = 2 * ((2 * c + k) * n);
     let end = start + 2 * n;
     &columns[start..end]
 }

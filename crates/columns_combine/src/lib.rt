@@ -6,10 +6,10 @@ pub mod column;
 pub mod combine;
 pub mod refuse;
 
-// The gain. `NotLoaded`: an entry's particle has no column. `Nothing`: no entry is left, and the gain is +0.0.
-#[derive(Clone, Copy)]
+// `NotLoaded`: an entry's particle has no column. `Nothing`: no entry is left, and the gain is +0.0.
+// Three answers with numbers of their own in the rules and over C, and no refusal: more than an Option says.
+#[derive(Clone, Copy, Debug)]
 pub enum Combined {
-    Refused(u8),
     NotLoaded,
     Nothing,
     Gain(f32),

@@ -49,14 +49,14 @@ pub one_compute_columns : OneOutcome compute-columns.ended (λ M 𝓤. compute-c
 unfolding making.work
 one_compute_columns = plainly compute-columns.ended _ (λ κs a p.
     of_door making.door _ _
-    (λ o. (o.answer, past 18 (o.columns, (o.rhs, (o.scratch, (o.residual, (o.direction, (o.a_direction, (o.z, (o.tally, tt))))))))))
+    (λ o. (o.answer, past 2 (o.columns, (o.rhs, (o.scratch, (o.residual, (o.direction, (o.a_direction, (o.z, (o.tally, tt))))))))))
     refl (λ k. refl) (λ w. refl))
 
 pub one_response_from_columns : OneOutcome response-from-columns.ended (λ M 𝓤. response-from-columns.spec)
 unfolding combining.work
 one_response_from_columns = plainly response-from-columns.ended _ (λ κs a p.
-    of_door combining.door _ _ (λ o. (o.answer, past 8 (o.out, tt))) refl (λ k. refl) (λ w. refl))
+    of_door combining.door _ _ (λ o. (o.answer, past 4 (o.out, tt))) refl (λ k. refl) (λ w. refl))
 
 pub one_particle_block_from_columns : OneOutcome particle-block-from-columns.ended (λ M 𝓤. particle-block-from-columns.spec)
 one_particle_block_from_columns = plainly particle-block-from-columns.ended _ (λ κs a p.
-    of_door blocking.door _ _ (λ o. (o.answer, past 6 (o.out, tt))) (blocked _) (λ k. refl) (λ w. refl))
+    of_door blocking.door _ _ (λ o. (o.answer, past 4 (o.out, tt))) (blocked _) (λ k. refl) (λ w. refl))

@@ -1,17 +1,17 @@
 -- THE COLUMNS OF THE LOADED PARTICLES: what computing them is handed, and what it answers and leaves.
 -- Particle after particle, rising, axis 0 before axis 1, whatever the columns' numbers are;
 -- each is a response with one entry, into the column's part of the buffer.
-use Rattle.std.specs.Prelude.{ℕ, ◌≡◌, true, List, Float}
-use Rattle.std.proofs.Common.{arith}
+use Rattle.std.specs.Prelude.{◌≡◌, true, List, Float, Result, Ok, Err, Some}
+use Rattle.std.proofs.Common.{sym}
 use Rattle.law.specs.Loop.{over}
 use Rattle.law.proofs.Room.{enough_is}
+use Rattle.law.specs.declared.refusal.Refusal.{Refusal}
 use Rattle.law.specs.Refusal.{verdict}
 use Rattle.law.proofs.Refusals.{all_pass, none_fails}
 use Rattle.law.specs.Promise.{Door, Promise}
 use Rattle.law.proofs.Promise.{refuses}
 use Rattle.law.specs.Said.{Said}
 use Rattle.step_tally.specs.declared.Tally.{Tally}
-use Rattle.step_tally.specs.declared.Asked.TheVariants.{One}
 use Rattle.step_tally.specs.declared.Kind.TheVariants as kinds
 use Rattle.step_tally.specs.Count.{counted_of}
 use Rattle.step_tally.specs.Runs.{fresh}
@@ -19,16 +19,15 @@ use Rattle.step_routes.specs.Dense.{cleared, swept}
 use Rattle.step_routes.specs.Dense as routes
 use Rattle.step_solve.specs.Stepping as S
 use Rattle.columns_table.specs.Test.{numbered_is}
-pub use Rattle.columns_axes.specs.Axes.{In, given, dense, Held, held, axis_of, for_axis, after_axis, for_step, Ready, solvable_for}
+pub use Rattle.columns_axes.specs.Axes.{In, given, handed_system, handed_table, dense, Held, held, axis_of, for_axis, after_axis, for_step, Ready, solvable_for}
 unfoldable pub use Rattle.columns_axes.specs.Axes.{axis_made, particle_made}
 pub use Rattle.columns_refusals.specs.Refusing.{in_order, unlent}
 unfoldable pub use Rattle.columns_refusals.specs.Refusing.{making_room, later, refusals}
-use Rattle.columns_make.specs.declared.Computed.{Computed}
-use Rattle.columns_make.specs.declared.Computed.TheVariants.{Refused, Ended}
+use Rattle.columns_make.specs.declared.Ended.{Ended}
 use Rattle.columns_make.specs.Said.{computed_said}
 
 pub record Out : Type 0 where
-  pub answer : Computed
+  pub answer : Result Ended Refusal
   pub said : Said
   pub columns : List Float
   pub rhs : List Float
@@ -39,7 +38,7 @@ pub record Out : Type 0 where
   pub z : List Float
   pub tally : Tally
 
-abbrev pub left : Computed → List Float → List Float → List Float → List Float → List Float → List Float → List Float → Tally → Out
+abbrev pub left : Result Ended Refusal → List Float → List Float → List Float → List Float → List Float → List Float → List Float → Tally → Out
 left r columns rhs scratch residual direction a_direction z tally = record {
   answer = r;
   said = computed_said r;
@@ -62,11 +61,11 @@ unfoldable pub made : In → Held
 made i = over (particle_made i) 0 i.n (begun i)
 
 -- how many of the call's own solves ended in each way
-abbrev pub ended_of : Tally → Computed
-ended_of t = Ended t.direct t.zero t.near t.converged t.curvature t.limit
+abbrev pub ended_of : Tally → Ended
+ended_of t = record { direct = t.direct; zero = t.zero; near = t.near; converged = t.converged; curvature = t.curvature; limit = t.limit }
 
 abbrev pub finished : Held → Out
-finished s = left (ended_of s.own) s.columns s.rhs s.scratch s.residual s.direction s.a_direction s.z s.lent
+finished s = left (Ok (ended_of s.own)) s.columns s.rhs s.scratch s.residual s.direction s.a_direction s.z s.lent
 
 unfoldable pub work : In → Out
 work i = finished (made i)
@@ -77,28 +76,28 @@ door = record {
   tests = refusals;
   in_order = in_order;
   work = work;
-  refuse = λ k i. left (Refused k) i.columns i.rhs i.scratch i.residual i.direction i.a_direction i.z
-      (counted_of i.tally (One kinds.Refused));
+  refuse = λ k i. left (Err k) i.columns i.rhs i.scratch i.residual i.direction i.a_direction i.z
+      (counted_of i.tally (Some kinds.Refused));
 }
 
--- ---- a refusal: k is the number, found without the lent record, and t that record afterwards
+-- ---- a refusal: found without the lent record; t is that record afterwards
 
-pub refused_once : (i : In) (k : ℕ) (t : Tally) → k ≡ verdict (refusals (unlent i)) → (k ≡ 0 → ⊥) → t ≡ counted_of i.tally (One kinds.Refused)
-    → Promise door i (left (Refused k) i.columns i.rhs i.scratch i.residual i.direction i.a_direction i.z t)
+pub refused_once : (i : In) (k : Refusal) (t : Tally) → Err k ≡ verdict (refusals (unlent i)) → t ≡ counted_of i.tally (Some kinds.Refused)
+    → Promise door i (left (Err k) i.columns i.rhs i.scratch i.residual i.direction i.a_direction i.z t)
 unfolding refusals
-refused_once i k t e h g = rw g (refuses door i k e h)
+refused_once i k t e g = rw g (refuses door i k e)
 
 -- ---- what the work requires
 
-pub ready : (i : In) → verdict (refusals i) ≡ 0 → Ready i
+pub ready : (i : In) → Ok tt ≡ verdict (refusals i) → Ready i
 unfolding refusals later S.refusals routes.later routes.structural making_room
 ready i h =
-    let p = all_pass 1 (refusals i) (omega arith) (in_order i) h in
+    let p = all_pass (refusals i) h in
     let q = p.1.1 in
     let l = q.1 in
     let e = enough_is true (making_room i.n i.pinned i.loaded i.column_of i.columns) q.0 in
     record {
-      solvable = S.ready (for_step i) (none_fails (S.refusals (for_step i)) (p.0, (p.1.0, (l.0, l.1.1))));
+      solvable = S.ready (for_step i) (sym (none_fails (S.refusals (for_step i)) (p.0, (p.1.0, (l.0, l.1.1)))));
       marks = e.0;
       places = e.1.0;
       room = e.1.1.0;

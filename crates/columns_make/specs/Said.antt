@@ -1,9 +1,10 @@
 -- WHAT COMPUTED COLUMNS SAY: how many of the solves ended in each way, in the tally's order.
-use Rattle.std.specs.Prelude.{[], ◌∷◌}
+use Rattle.std.specs.Prelude.{[], ◌∷◌, Result, Ok, Err}
+use Rattle.law.specs.declared.refusal.Refusal.{Refusal}
+use Rattle.law.specs.Number.{number}
 use Rattle.law.specs.Said.{Said, refused, carries}
-use Rattle.columns_make.specs.declared.Computed.{Computed}
-use Rattle.columns_make.specs.declared.Computed.TheVariants as computed
+use Rattle.columns_make.specs.declared.Ended.{Ended}
 
-abbrev pub computed_said : Computed → Said
-computed_said (computed.Refused k) = refused k
-computed_said (computed.Ended direct zero near converged curvature limit) = carries 0 (direct ∷ zero ∷ near ∷ converged ∷ curvature ∷ limit ∷ []) []
+abbrev pub computed_said : Result Ended Refusal → Said
+computed_said (Err k) = refused (number k)
+computed_said (Ok e) = carries 0 (e.direct ∷ e.zero ∷ e.near ∷ e.converged ∷ e.curvature ∷ e.limit ∷ []) []

@@ -1,30 +1,20 @@
-// Computing the columns with all its tests: refused by number, or done. The tally is a record by value.
+// Computing the columns with all its tests: refused, or done.
+// The work lists stay parameters: in a struct each clause would have to say that every field keeps its reference.
 ghost use Rattle.law.specs.Promise.{Promise};
+ghost use Rattle.step_routes.specs.System.{system_of};
+ghost use Rattle.columns_table.specs.Lent.{numbers_of};
 ghost use Rattle.columns_make.specs.Making.{given, left, door};
 
-use crate::{Computed, Reckoned, front};
+use crate::{Ended, front};
 use columns_refusals::refuse;
-use step_tally::{Asked, Kind, Tally};
+use columns_table::table::Table;
+use law::refusal::Refusal;
+use step_routes::system::System;
+use step_tally::{Kind, Tally};
 
 pub fn compute_columns(
-    n: usize,
-    row_offsets: &[u32],
-    cols: &[u32],
-    diagonal: &[u32],
-    blocks: &[f32],
-    perm: &[u32],
-    inv_perm: &[u32],
-    first: &[u32],
-    row_start: &[u32],
-    values: &[f32],
-    factored: bool,
-    preconditioner: &[f32],
-    tolerance: f32,
-    max_iterations: usize,
-    max_dense_dofs: usize,
-    pinned: &[u8],
-    loaded: usize,
-    column_of: &[u32],
+    system: &System,
+    table: &Table,
     columns: &mut [f32],
     rhs: &mut [f32],
     scratch: &mut [f32],
@@ -32,35 +22,17 @@ pub fn compute_columns(
     direction: &mut [f32],
     a_direction: &mut [f32],
     z: &mut [f32],
-    tally: Tally,
-) -> Reckoned
+    tally: &mut Tally,
+) -> Result<Ended, Refusal>
     ensures { Promise door
-        (given n row_offsets.now cols.now diagonal.now blocks.now perm.now
-        inv_perm.now first.now row_start.now values.now factored preconditioner.now
-        tolerance max_iterations max_dense_dofs pinned.now loaded column_of.now columns.old
-        rhs.old scratch.old residual.old direction.old a_direction.old z.old tally)
-        (left result.answer columns.new rhs.new scratch.new residual.new direction.new
-        a_direction.new z.new result.tally) }
+        (given (system_of system.now) (numbers_of table.now) columns.old rhs.old scratch.old residual.old
+        direction.old a_direction.old z.old tally.old)
+        (left result columns.new rhs.new scratch.new residual.new direction.new a_direction.new z.new
+        tally.new) }
 {
-    let no = refuse::computing(
-        n,
-        row_offsets,
-        cols,
-        diagonal,
-        blocks,
-        perm,
-        inv_perm,
-        first,
-        row_start,
-        values,
-        factored,
-        preconditioner,
-        tolerance,
-        max_iterations,
-        max_dense_dofs,
-        pinned,
-        loaded,
-        column_of,
+    if let Err(refusal) = refuse::computing(
+        system,
+        table,
         columns,
         rhs,
         scratch,
@@ -68,32 +40,13 @@ pub fn compute_columns(
         direction,
         a_direction,
         z,
-    );
-    if no != 0 {
-        return Reckoned {
-            answer: Computed::Refused(no),
-            tally: step_tally::counted(tally, Asked::One(Kind::Refused)),
-        };
+    ) {
+        step_tally::count(tally, Some(Kind::Refused));
+        return Err(refusal);
     }
-    front::compute(
-        n,
-        row_offsets,
-        cols,
-        diagonal,
-        blocks,
-        perm,
-        inv_perm,
-        first,
-        row_start,
-        values,
-        factored,
-        preconditioner,
-        tolerance,
-        max_iterations,
-        max_dense_dofs,
-        pinned,
-        loaded,
-        column_of,
+    Ok(front::compute(
+        system,
+        table,
         columns,
         rhs,
         scratch,
@@ -102,5 +55,5 @@ pub fn compute_columns(
         a_direction,
         z,
         tally,
-    )
+    ))
 }

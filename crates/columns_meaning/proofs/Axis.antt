@@ -15,6 +15,8 @@ use Rattle.plane.specs.Plane.{Vector, pair, x, y, zero32, one32, zero_of, add_of
 use Rattle.plane.specs.Lent.{vector_at, with_vector}
 use Rattle.matrix_shape.specs.Rows.{at}
 use Rattle.gradient_definition.specs.Vectors.{zeros}
+use Rattle.std.specs.Prelude.{Result, Ok, Err}
+use Rattle.law.specs.declared.refusal.Refusal.{Refusal}
 use Rattle.step_solve.specs.declared.Stepped.{Stepped}
 use Rattle.step_solve.specs.declared.Stepped.TheVariants as steps
 use Rattle.step_solve.specs.Stepping as S
@@ -45,10 +47,10 @@ same_front : (n : ℕ) (l r : List Float) → length l ≡ 2 * n → Same n (l +
 same_front n l r e q h = vector_left l r q (omega arith)
 
 -- a response is counted as its step solve
-asked_as : (t : Stepped) (gain : Float) → asked_by (R.answer_of t gain) ≡ asked_of t
-asked_as (steps.Refused k) gain = refl
-asked_as steps.Direct gain = refl
-asked_as (steps.Iterated o) gain = refl
+asked_as : (t : Result Stepped Refusal) (gain : Float) → asked_by (R.answer_of t gain) ≡ asked_of t
+asked_as (Err k) gain = refl
+asked_as (Ok steps.Direct) gain = refl
+asked_as (Ok (steps.Iterated o)) gain = refl
 
 -- ---- the right-hand side
 
@@ -98,9 +100,9 @@ module _ (i : In) (p k : ℕ) (s : Held) (has : Ready i) (is : Loaded i p) where
   same : Same i.n (R.rhs_of (for_axis i p k s)) (unit_at i.n p k)
   same = rw rhs_is (same_front i.n (unit_at i.n p k) (drop (2 * i.n) s.rhs) (unit_long i.n p k))
 
-  how_is : how_of step step.b ≡ (solved i p k).answer
+  how_is : Ok (how_of step step.b) ≡ (solved i p k).answer
   unfolding solved
-  how_is = how_same step step.b (unit_at i.n p k) same ∙ sym (ap (λ (o : S.Out). o.answer) (work_is (solve_for i p k)))
+  how_is = ap (λ (t : Stepped). Ok t) (how_same step step.b (unit_at i.n p k) same) ∙ sym (ap (λ (o : S.Out). o.answer) (work_is (solve_for i p k)))
 
   front_is : front_of step step.b ++ drop (2 * i.n) step.x ≡ solution i p k
   unfolding solved

@@ -1,17 +1,19 @@
 -- The tally over any sequence of calls, computing included. Assumes nothing.
-use Prim.Native.Nat.{ℕ, zero, suc, ◌+◌}
+use Rattle.std.specs.Prelude.{Ok, Err}
+use Prim.Native.Nat.{◌+◌}
 use native.Mathlib.Omega.{arith}
 use mathlib.Core.Path.{◌≡◌, refl, sym, ap, ◌∙◌}
 use mathlib.Core.List.{List, [], ◌∷◌}
 use mathlib.Core.Logic.{inl, inr}
 use lib.ListN.{length}
 use Rattle.law.specs.Limit.{tally}
-use Rattle.law.specs.Refusal.{verdict}
+use Rattle.law.specs.declared.refusal.Refusal.{Refusal}
+use Rattle.law.specs.Refusal.{Verdict, verdict}
 use Rattle.law.specs.Promise.{Promise, by, outcome}
 use Rattle.step_tally.specs.declared.Tally.{Tally}
-use Rattle.step_tally.specs.declared.Asked.{Asked}
+use Rattle.step_tally.specs.Count.{Asked}
 use Rattle.step_tally.specs.declared.Kind.TheVariants.{Refused}
-use Rattle.step_tally.specs.declared.Asked.TheVariants.{One}
+use Rattle.std.specs.Prelude.{Some}
 use Rattle.step_tally.specs.Count.{total_of}
 use Rattle.step_tally.specs.Runs.{fresh, count_of, after, solves, sum_to, sum_is, count_is}
 use Rattle.step_counts.specs.Counting.{after_step, after_response}
@@ -31,32 +33,32 @@ asks_same : (i : In) (t : Tally) → asks (lending i t) ≡ asks i
 unfolding asks asked_at solved
 asks_same i t = refl
 
--- what computing asks for, by its number
-taken : (i : In) → verdict (refusals i) ≡ 0 → asked (inr i) ≡ asks i
+-- what computing asks for, by its verdict
+taken : (i : In) → verdict (refusals i) ≡ Ok tt → asked (inr i) ≡ asks i
 taken i v = rw v
 
-refused_once : (i : In) (k : ℕ) → verdict (refusals i) ≡ suc k → asked (inr i) ≡ One Refused ∷ []
+refused_once : (i : In) (k : Refusal) → verdict (refusals i) ≡ Err k → asked (inr i) ≡ Some Refused ∷ []
 refused_once i k v = rw v
 
 module _ (i : In) (t : Tally) (o : Out) (h : Promise door (lending i t) o) where
-  accepted : verdict (refusals i) ≡ 0 → o.tally ≡ after tally t (asked (inr i))
+  accepted : verdict (refusals i) ≡ Ok tt → o.tally ≡ after tally t (asked (inr i))
   accepted v =
-      let w : verdict (refusals (lending i t)) ≡ 0 = ap verdict (refusals_same i t) ∙ v in
+      let w : verdict (refusals (lending i t)) ≡ Ok tt = ap verdict (refusals_same i t) ∙ v in
       (tally_is (lending i t) o h w).lent ∙ ap (after tally t) (asks_same i t ∙ sym (taken i v))
 
-  turned_away : (k : ℕ) → verdict (refusals i) ≡ suc k → o.tally ≡ after tally t (asked (inr i))
+  turned_away : (k : Refusal) → verdict (refusals i) ≡ Err k → o.tally ≡ after tally t (asked (inr i))
   unfolding outcome after
   turned_away k v =
-      let w : verdict (refusals (lending i t)) ≡ suc k = ap verdict (refusals_same i t) ∙ v in
-      ap (λ (q : Out). q.tally) (h ∙ ap (λ (j : ℕ). by j (work (lending i t)) (λ m. door.refuse m (lending i t))) w)
+      let w : verdict (refusals (lending i t)) ≡ Err k = ap verdict (refusals_same i t) ∙ v in
+      ap (λ (q : Out). q.tally) (h ∙ ap (λ (v : Verdict). by v (work (lending i t)) (λ m. door.refuse m (lending i t))) w)
       ∙ ap (after tally t) (sym (refused_once i k v))
 
   computed : o.tally ≡ after tally t (asked (inr i))
   computed = pick (verdict (refusals i)) refl
     where
-      pick : (k : ℕ) → verdict (refusals i) ≡ k → o.tally ≡ after tally t (asked (inr i))
-      pick zero e = accepted e
-      pick (suc k) e = turned_away k e
+      pick : (v : Verdict) → verdict (refusals i) ≡ v → o.tally ≡ after tally t (asked (inr i))
+      pick (Ok tt) e = accepted e
+      pick (Err k) e = turned_away k e
 
 -- any call, and any calls
 made_is : (c : Call) (t u : Tally) → Made c t u → u ≡ after tally t (asked c)
@@ -81,7 +83,7 @@ count_of_calls l u j m = ap (λ (t : Tally). count_of t j) (all_is l fresh u m) 
 -- how many an accepted computing asks for: what a record under a cap that isn't met counts
 pub asks_two_each : AsksTwoEach
 asks_two_each i v =
-    let many = two_each i (ready i v).numbered in
+    let many = two_each i (ready i (sym v)).numbered in
     let cap = length (asks i) + 1 in
     let q = counted cap fresh (asks i) (all_ran i) (omega arith) in
     omega (arith, ap (λ (l : List Asked). length (solves l)) (taken i v), sum_to cap (asks i), q.0)

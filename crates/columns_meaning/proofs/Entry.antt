@@ -1,7 +1,8 @@
 -- One entry combined: the two axes' columns times their weights, over zeros. Assumes nothing.
+use Rattle.std.specs.Prelude.{Ok}
 use Prim.Native.Nat.{ℕ, ◌*◌, ◌<◌}
 use native.Mathlib.Omega.{arith}
-use mathlib.Core.Path.{◌≡◌, refl, ap, ◌∙◌}
+use mathlib.Core.Path.{◌≡◌, refl, ap, ◌∙◌, sym}
 use mathlib.Core.Bool.{Bool, true, false, cond}
 use mathlib.Core.List.{List, [], ◌∷◌, ◌++◌}
 use lib.ListN.{length, drop}
@@ -15,7 +16,7 @@ use Rattle.law.specs.Gather.{gather}
 use Rattle.law.proofs.Gather.{gather_same}
 use Rattle.law.specs.Mix.{mix}
 use Rattle.law.proofs.Mix.{length_parts}
-use Rattle.law.specs.Refusal.{verdict}
+use Rattle.law.specs.Refusal.{Verdict, verdict}
 use Rattle.law.proofs.Refusals.{all_pass}
 use Rattle.law.specs.Promise.{by, outcome}
 use Rattle.plane.specs.Plane.{Vector, pair, x, y, ◌⊕◌, zero32, zero_of, add_of, scale_of, dot_of}
@@ -27,8 +28,9 @@ use Rattle.step_entries.specs.Entries.{free, any_free, gain_step, raw_gain, gain
 use Rattle.columns_table.specs.Test.{numbered_is}
 use Rattle.columns_table.specs.Columns.{column_of}
 use Rattle.columns_combine.specs.Summed.{Sum, sum_of, axis_added, entry_added, summed}
+use Rattle.columns_combine.specs.declared.Combined.{Combined}
 use Rattle.columns_combine.specs.declared.Combined.TheVariants.{Gain}
-use Rattle.columns_combine.specs.Combining.{In, ready, left, refusals, in_order, sum_for, answer_of, work, door}
+use Rattle.columns_combine.specs.Combining.{In, ready, left, refusals, sum_for, answer_of, work, door}
 use Rattle.columns_meaning.specs.Combined.{plus, weighted_at, weighted, particle_of, gradient_of, OneEntry, OneEntryWeighs}
 use Rattle.columns_meaning.proofs.Parts.{mix_vector}
 
@@ -80,7 +82,7 @@ pair_of (a ∷ []) e = absurd (omega arith)
 pair_of (a ∷ b ∷ []) e = refl
 pair_of (a ∷ b ∷ c ∷ v) e = absurd (omega arith)
 
-module _ (j : In) (s t : List Float) (v : verdict (refusals j) ≡ 0) (w : OneEntry j s t) where
+module _ (j : In) (s t : List Float) (v : verdict (refusals j) ≡ Ok tt) (w : OneEntry j s t) where
   abbrev p : ℕ
   p = particle_of j
 
@@ -88,12 +90,12 @@ module _ (j : In) (s t : List Float) (v : verdict (refusals j) ≡ 0) (w : OneEn
   g = gradient_of j
 
   inside : p < j.n
-  inside = (ready j v).entered.inside 0 (omega (arith, w.one))
+  inside = (ready j (sym v)).entered.inside 0 (omega (arith, w.one))
 
   unpinned : at j.pinned p ≡ 0
   unfolding refusals
   unpinned =
-      let f = all_pass 1 (refusals j) (omega arith) (in_order j) v in
+      let f = all_pass (refusals j) (sym v) in
       (numbered_is j.n j.pinned j.loaded j.column_of f.1.1.1.1.1.0).unpinned p inside w.has
 
   -- the sum, axis after axis
@@ -137,5 +139,5 @@ module _ (j : In) (s t : List Float) (v : verdict (refusals j) ≡ 0) (w : OneEn
 pub one_entry : OneEntryWeighs
 unfolding outcome work
 one_entry j o h v s t w =
-    let is : o ≡ left (answer_of j (sum_for j)) (sum_for j).out = h ∙ ap (λ (k : ℕ). by k (work j) (λ m. door.refuse m j)) v in
-    rw is record { left = out_is j s t v w; gain = answer_is j s t v w }
+    let is : o ≡ left (Ok (answer_of j (sum_for j))) (sum_for j).out = h ∙ ap (λ (k : Verdict). by k (work j) (λ m. door.refuse m j)) v in
+    rw is record { left = out_is j s t v w; gain = ap (λ (r : Combined). Ok r) (answer_is j s t v w) }

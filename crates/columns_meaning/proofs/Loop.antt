@@ -22,7 +22,7 @@ use Rattle.law.proofs.Mix.{part_new, part_else}
 use Rattle.matrix_shape.specs.Rows.{at}
 use Rattle.gradient_definition.specs.Vectors.{zeros}
 use Rattle.step_tally.specs.declared.Tally.{Tally}
-use Rattle.step_tally.specs.declared.Asked.{Asked}
+use Rattle.step_tally.specs.Count.{Asked}
 use Rattle.step_tally.specs.Count.{counted_of, counted_to}
 use Rattle.step_tally.specs.Runs.{fresh, after}
 use Rattle.step_routes.specs.Dense.{cleared, swept}

@@ -35,8 +35,15 @@ use Rattle.step_entries.specs.Entries.{entries_room, below, free, any_free, load
 use Rattle.step_response.specs.declared.Responded.TheVariants as responded
 use Rattle.step_response.specs.Responding as R
 use Rattle.columns_table.specs.Table.{entry_ok, times, numbered, table_ok}
-use Rattle.columns_make.specs.declared.Computed.{Computed}
-use Rattle.columns_make.specs.declared.Computed.TheVariants.{Refused, Ended}
+use Rattle.std.specs.Prelude.{Result, Ok, Err}
+use Rattle.law.specs.declared.refusal.Refusal.{Refusal}
+use Rattle.law.specs.declared.refusal.Refusal.TheVariants.{BadPlan}
+use Rattle.matrix_shape.specs.Shape.{shape}
+use Rattle.plan_fits.specs.Layout.{layout}
+use Rattle.step_routes.specs.System.{Sys, system}
+use Rattle.step_entries.specs.Lent.{entered}
+use Rattle.columns_table.specs.Lent.{numbering}
+use Rattle.columns_make.specs.declared.Ended.{Ended}
 use Rattle.columns_make.specs.Making as M
 use Rattle.columns_combine.specs.declared.Combined.TheVariants.{Gain}
 use Rattle.columns_combine.specs.Summed.{axis_added, entry_added, summed}
@@ -64,22 +71,25 @@ block = floats (0x3f800000 ∷ 0x3f800000 ∷ 0x3f800000 ∷ 0x40000000 ∷ [])
 abbrev factor : List Float
 factor = floats (0x3f800000 ∷ 0x3f800000 ∷ 0x3f800000 ∷ [])
 
+alone : ℕ → ℕ → Sys
+alone dofs limit =
+    system (shape 1 (0 ∷ 1 ∷ []) (0 ∷ []) (0 ∷ [])) block (layout (0 ∷ []) (0 ∷ []) (0 ∷ 0 ∷ []) (0 ∷ 1 ∷ 3 ∷ [])) factor true block
+    (of_bits binary32 0) limit dofs
+
 compute : ℕ → ℕ → ℕ → ℕ → Tally → M.Out
 compute dofs limit loaded number t =
-    outcome M.door (M.given 1 (0 ∷ 1 ∷ []) (0 ∷ []) (0 ∷ []) block (0 ∷ []) (0 ∷ []) (0 ∷ 0 ∷ []) (0 ∷ 1 ∷ 3 ∷ []) factor true block
-    (of_bits binary32 0) limit dofs (0 ∷ []) loaded (number ∷ []) (junk 2) (junk 1) (junk 1) (junk 1) (junk 1) (junk 1) (junk 1) t)
+    outcome M.door (M.given (alone dofs limit) (numbering (0 ∷ []) loaded (number ∷ [])) (junk 2) (junk 1) (junk 1) (junk 1) (junk 1) (junk 1) (junk 1) t)
 
 -- one entry, (3, 4) at the particle, from these columns; and the response to it
 abbrev gradient : List Float
 gradient = floats (0x40400000 ∷ 0x40800000 ∷ [])
 
 combine : List Float → C.Out
-combine columns = outcome C.door (C.given 1 (0 ∷ []) 1 (0 ∷ []) columns 1 (0 ∷ []) gradient (junk 1))
+combine columns = outcome C.door (C.given 1 (numbering (0 ∷ []) 1 (0 ∷ [])) columns (entered 1 (0 ∷ []) gradient) (junk 1))
 
 respond : R.Out
 respond =
-    outcome R.door (R.given 1 (0 ∷ 1 ∷ []) (0 ∷ []) (0 ∷ []) block (0 ∷ []) (0 ∷ []) (0 ∷ 0 ∷ []) (0 ∷ 1 ∷ 3 ∷ []) factor true block
-    (of_bits binary32 0) 1 2 (0 ∷ []) 1 (0 ∷ []) gradient (junk 1) (junk 1) (junk 1) (junk 1) (junk 1) (junk 1) (junk 1))
+    outcome R.door (R.given (alone 2 1) (0 ∷ []) (entered 1 (0 ∷ []) gradient) (junk 1) (junk 1) (junk 1) (junk 1) (junk 1) (junk 1) (junk 1))
 
 -- (2, -1), (-1, 1)
 abbrev inverse : List Float
@@ -92,8 +102,13 @@ both = floats (0x40000000 ∷ 0x3f800000 ∷ []) ++ (nan ∷ [])
 abbrev ten : Float
 ten = of_bits binary32 0x41200000
 
+-- the six counts
+abbrev ended : ℕ → ℕ → ℕ → ℕ → ℕ → ℕ → Result Ended Refusal
+ended direct nought near converged curvature limit =
+    Ok (record { direct = direct; zero = nought; near = near; converged = converged; curvature = curvature; limit = limit })
+
 -- the work lists zeroed, with the scratch
-cleared : Computed → List Float → Tally → M.Out
+cleared : Result Ended Refusal → List Float → Tally → M.Out
 cleared r columns t = M.left r columns (none 1) (none 1) (none 1) (none 1) (none 1) (none 1) t
 
 -- TWO PARTICLES that don't touch, the first's block the identity, the second's minus it, so that the first's solves converge and the second's bend.
@@ -106,8 +121,8 @@ anti = 0xbf800000 ∷ 0 ∷ 0 ∷ 0xbf800000 ∷ []
 
 crossed : Tally → M.Out
 crossed t =
-    outcome M.door (M.given 2 (0 ∷ 1 ∷ 2 ∷ []) (0 ∷ 1 ∷ []) (0 ∷ 1 ∷ []) (floats (eye ++ anti)) [] [] [] [] [] true (floats (eye ++ eye))
-    (of_bits binary32 0) 5 3 (0 ∷ 0 ∷ []) 2 (1 ∷ 0 ∷ []) (junk 8) (junk 2) [] (junk 2) (junk 2) (junk 2) (junk 2) t)
+    outcome M.door (M.given (system (shape 2 (0 ∷ 1 ∷ 2 ∷ []) (0 ∷ 1 ∷ []) (0 ∷ 1 ∷ [])) (floats (eye ++ anti)) (layout [] [] [] []) [] true
+    (floats (eye ++ eye)) (of_bits binary32 0) 5 3) (numbering (0 ∷ 0 ∷ []) 2 (1 ∷ 0 ∷ [])) (junk 8) (junk 2) [] (junk 2) (junk 2) (junk 2) (junk 2) t)
 
 -- the second's columns come first, the first's behind them
 abbrev crossed_columns : List Float
@@ -115,26 +130,26 @@ crossed_columns = floats (0 ∷ 0 ∷ 0 ∷ 0 ∷ 0 ∷ 0 ∷ 0 ∷ 0 ∷ 0x3f80
 
 record Readings : Type 0 where
   -- the two solves give the inverse, by the factor
-  columns : compute 2 1 1 0 fresh ≡ cleared (Ended 2 0 0 0 0 0) inverse (counts 2 0 0 0 0 0 0)
+  columns : compute 2 1 1 0 fresh ≡ cleared (ended 2 0 0 0 0 0) inverse (counts 2 0 0 0 0 0 0)
   -- one entry combined from them, and the response to it, by the same numbers
-  combined : combine (compute 2 1 1 0 fresh).columns ≡ C.left (Gain ten) both
-  response : respond ≡ R.left (responded.Direct ten) both (none 1) (none 1) (none 1) (none 1) (none 1) (none 1)
+  combined : combine (compute 2 1 1 0 fresh).columns ≡ C.left (Ok (Gain ten)) both
+  response : respond ≡ R.left (Ok (responded.Direct ten)) both (none 1) (none 1) (none 1) (none 1) (none 1) (none 1)
   same_out : (combine (compute 2 1 1 0 fresh).columns).out ≡ respond.out
   -- none loaded: the work lists are zeroed, the columns left, and nothing is counted
-  none_loaded : compute 2 1 0 unloaded (counts 1 2 3 4 5 6 7) ≡ cleared (Ended 0 0 0 0 0 0) (junk 2) (counts 1 2 3 4 5 6 7)
+  none_loaded : compute 2 1 0 unloaded (counts 1 2 3 4 5 6 7) ≡ cleared (ended 0 0 0 0 0 0) (junk 2) (counts 1 2 3 4 5 6 7)
   -- by iteration with no turn: the limit, twice, and zeros; the scratch is left
-  no_turn : compute 1 0 1 0 fresh ≡ M.left (Ended 0 0 0 0 0 2) (none 2) (none 1) (junk 1) (none 1) (none 1) (none 1) (none 1) (counts 0 0 0 0 0 2 0)
+  no_turn : compute 1 0 1 0 fresh ≡ M.left (ended 0 0 0 0 0 2) (none 2) (none 1) (junk 1) (none 1) (none 1) (none 1) (none 1) (counts 0 0 0 0 0 2 0)
   -- refused, by a number at the count: nothing is changed, and one refused call counted
   refused : compute 2 1 0 0 (counts 1 2 3 4 5 6 7)
-      ≡ M.left (Refused 6) (junk 2) (junk 1) (junk 1) (junk 1) (junk 1) (junk 1) (junk 1) (counts 1 2 3 4 5 6 8)
+      ≡ M.left (Err BadPlan) (junk 2) (junk 1) (junk 1) (junk 1) (junk 1) (junk 1) (junk 1) (counts 1 2 3 4 5 6 8)
   -- the cap in between: of two solves the lent record counts the first alone, the answer both
-  at_cap : compute 2 1 1 0 (counts 0 0 0 3999999999 0 0 0) ≡ cleared (Ended 2 0 0 0 0 0) inverse (counts 1 0 0 3999999999 0 0 0)
+  at_cap : compute 2 1 1 0 (counts 0 0 0 3999999999 0 0 0) ≡ cleared (ended 2 0 0 0 0 0) inverse (counts 1 0 0 3999999999 0 0 0)
   -- by particle, rising, whatever the numbers: two below the cap, it is the first's solves that are counted
   by_particle : crossed (counts 3999999998 0 0 0 0 0 0)
-      ≡ M.left (Ended 0 0 0 2 2 0) crossed_columns (none 2) [] (none 2) (none 2) (none 2) (none 2) (counts 3999999998 0 0 2 0 0 0)
+      ≡ M.left (ended 0 0 0 2 2 0) crossed_columns (none 2) [] (none 2) (none 2) (none 2) (none 2) (counts 3999999998 0 0 2 0 0 0)
 
 readings : Readings
-unfolding floats counts junk none compute combine respond cleared crossed outcome verdict enough when
+unfolding floats counts junk none alone compute combine respond cleared crossed outcome verdict enough when
     M.refusals M.later M.making_room M.axis_made M.particle_made M.begun M.made M.work table_ok numbered times entry_ok sum bit
     C.refusals C.columns_room C.sum_for C.work summed entry_added axis_added
     S.work S.directly S.iteratively R.refusals R.work R.answered R.idle R.rhs_of entries_room below
@@ -144,8 +159,8 @@ unfolding floats counts junk none compute combine respond cleared crossed outcom
     forward_of forward_step forward_by solvedSum solved started launched fresh_of finished rescaled run turn product preconditioned advanced retreated
     redirected lacking scaled zeros product_at row_sum slot_step dot_all gather over fold of_bits add sub mul div neg lt le eq ne
 readings =
-    let combined : combine (compute 2 1 1 0 fresh).columns ≡ C.left (Gain ten) both = refl in
-    let response : respond ≡ R.left (responded.Direct ten) both (none 1) (none 1) (none 1) (none 1) (none 1) (none 1) = refl in
+    let combined : combine (compute 2 1 1 0 fresh).columns ≡ C.left (Ok (Gain ten)) both = refl in
+    let response : respond ≡ R.left (Ok (responded.Direct ten)) both (none 1) (none 1) (none 1) (none 1) (none 1) (none 1) = refl in
     record {
       columns = refl;
       combined = combined;

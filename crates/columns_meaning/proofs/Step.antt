@@ -44,6 +44,7 @@ use Rattle.gradient_definition.specs.Solve.{
 }
 use Rattle.gradient_doors.specs.Solving as G
 use Rattle.step_routes.specs.Dense.{cleared, swept}
+use Rattle.std.specs.Prelude.{Ok}
 use Rattle.step_solve.specs.declared.Stepped.{Stepped}
 use Rattle.step_solve.specs.declared.Stepped.TheVariants.{Direct, Iterated}
 use Rattle.step_solve.specs.Stepping as S
@@ -231,13 +232,13 @@ module _ (s : S.In) where
 
   -- all that it answers and leaves
   pub work_is : S.work s
-      ≡ S.left (how_of s.b) (front_of s.b ++ drop (2 * s.n) s.x) (swept (S.dense s) s.n s.scratch) (cleared s.n s.residual)
+      ≡ S.left (Ok (how_of s.b)) (front_of s.b ++ drop (2 * s.n) s.x) (swept (S.dense s) s.n s.scratch) (cleared s.n s.residual)
       (cleared s.n s.direction) (cleared s.n s.a_direction) (cleared s.n s.z)
   unfolding S.work S.directly S.iteratively D.work G.work G.solve_for swept zeros
   work_is = pick by_factor refl
     where
       pick : (t : Bool) → by_factor ≡ t → S.work s
-          ≡ S.left (how_of s.b) (front_of s.b ++ drop (2 * s.n) s.x) (swept (S.dense s) s.n s.scratch) (cleared s.n s.residual)
+          ≡ S.left (Ok (how_of s.b)) (front_of s.b ++ drop (2 * s.n) s.x) (swept (S.dense s) s.n s.scratch) (cleared s.n s.residual)
           (cleared s.n s.direction) (cleared s.n s.a_direction) (cleared s.n s.z)
       pick true e = rw (e, (both (S.dense s) s.factored e).0)
       pick false e =

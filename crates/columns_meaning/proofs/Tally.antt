@@ -21,8 +21,8 @@ use Rattle.step_solve.specs.declared.Stepped.TheVariants as steps
 use Rattle.step_solve.specs.Stepping as S
 use Rattle.step_tally.specs.declared.Kind.{Kind}
 use Rattle.step_tally.specs.declared.Kind.TheVariants as kinds
-use Rattle.step_tally.specs.declared.Asked.{Asked}
-use Rattle.step_tally.specs.declared.Asked.TheVariants.{One}
+use Rattle.step_tally.specs.Count.{Asked}
+use Rattle.std.specs.Prelude.{Some, Ok}
 use Rattle.step_tally.specs.declared.Tally.{Tally}
 use Rattle.step_tally.specs.Count.{number, total_of, one_more, counted_to}
 use Rattle.step_tally.specs.Runs.{fresh, after}
@@ -36,17 +36,17 @@ use Rattle.columns_meaning.proofs.Step.{by_factor, iterate, work_is}
 
 -- ---- a solve that ran
 
-ran_as : (k : Kind) (a : Asked) → a ≡ One k → number k < 6 → Ran a
+ran_as : (k : Kind) (a : Asked) → a ≡ Some k → number k < 6 → Ran a
 ran_as k a e l = (k, (e, λ r. let six : number k ≡ 6 = ap number r in omega arith))
 
-outcome_ran : (o : Outcome) → Ran (asked_of (steps.Iterated o))
+outcome_ran : (o : Outcome) → Ran (asked_of (Ok (steps.Iterated o)))
 outcome_ran (Zero count) = ran_as kinds.Zero _ refl (omega arith)
 outcome_ran (Near count residual) = ran_as kinds.Near _ refl (omega arith)
 outcome_ran (Converged count residual) = ran_as kinds.Converged _ refl (omega arith)
 outcome_ran (Curvature count residual denominator) = ran_as kinds.Curvature _ refl (omega arith)
 outcome_ran (Limit count residual) = ran_as kinds.Limit _ refl (omega arith)
 
-route_ran : (t : Bool) (o : Outcome) → Ran (asked_of (cond t steps.Direct (steps.Iterated o)))
+route_ran : (t : Bool) (o : Outcome) → Ran (asked_of (Ok (cond t steps.Direct (steps.Iterated o))))
 route_ran true o = ran_as kinds.Direct _ refl (omega arith)
 route_ran false o = outcome_ran o
 
@@ -148,7 +148,7 @@ two_each i w =
         (λ (e : c ≡ unloaded → ⊥). rw (ne_eqb _ _ e, one_of c i.loaded (w.inside p l e))) (same_or c unloaded)
 
 -- the six counts of the call's own record
-pub own_sum : (i : In) → Numbered i.n i.pinned i.loaded i.column_of → sum_of (ended_of (after tally fresh (asks i))) ≡ 2 * i.loaded
+pub own_sum : (i : In) → Numbered i.n i.pinned i.loaded i.column_of → sum_of (Ok (ended_of (after tally fresh (asks i)))) ≡ 2 * i.loaded
 own_sum i w =
     let q = counted tally fresh (asks i) (all_ran i) (omega (arith, two_each i w, w.few)) in
     omega (arith, q.0, q.1, two_each i w)

@@ -1,7 +1,8 @@
 -- THE THEOREMS: what an accepted computing leaves, and what a combination of one entry from it is. By the calls' promises alone. Assumes nothing.
+use Rattle.std.specs.Prelude.{Ok}
 use Prim.Native.Nat.{ℕ, ◌*◌, ◌≤◌}
 use native.Mathlib.Omega.{arith}
-use mathlib.Core.Path.{◌≡◌, refl, ap, ◌∙◌}
+use mathlib.Core.Path.{◌≡◌, refl, sym, ap, ◌∙◌}
 use mathlib.Core.Bool.{true}
 use mathlib.Core.List.{List, [], ◌∷◌}
 use lib.ListN.{length}
@@ -10,11 +11,12 @@ use borrow.Author.Tests.{lt-ltb}
 use Rattle.law.specs.Loop.{over, fold}
 use Rattle.law.specs.Every.{every}
 use Rattle.law.proofs.Room.{enough_is, enough_of}
-use Rattle.law.specs.Refusal.{verdict}
+use Rattle.law.specs.Refusal.{Verdict, verdict}
+use Rattle.step_tally.specs.declared.Tally.{Tally}
 use Rattle.law.proofs.Refusals.{all_pass, none_fails}
 use Rattle.law.specs.Promise.{Promise, by, outcome}
 use Rattle.step_entries.specs.Entries.{entries_room, below}
-use Rattle.columns_make.specs.Making.{In, Out, Ready, ready, making_room, later, refusals, in_order, ended_of, made, finished, work, door}
+use Rattle.columns_make.specs.Making.{In, Out, Ready, ready, making_room, later, refusals, ended_of, made, finished, work, door}
 use Rattle.columns_combine.specs.Combining as C
 use Rattle.columns_meaning.specs.Solution.{solution, asks}
 use Rattle.columns_meaning.specs.Combined.{from, ComputeCombines}
@@ -26,13 +28,13 @@ use Rattle.columns_meaning.proofs.Tally.{ran, two_each, own_sum}
 
 -- ---- computing
 
-is_work : (i : In) (o : Out) → Promise door i o → verdict (refusals i) ≡ 0 → o ≡ finished (made i)
+is_work : (i : In) (o : Out) → Promise door i o → verdict (refusals i) ≡ Ok tt → o ≡ finished (made i)
 unfolding outcome work
-is_work i o h v = h ∙ ap (λ (k : ℕ). by k (work i) (λ j. door.refuse j i)) v
+is_work i o h v = h ∙ ap (λ (k : Verdict). by k (work i) (λ j. door.refuse j i)) v
 
-module _ (i : In) (o : Out) (h : Promise door i o) (v : verdict (refusals i) ≡ 0) where
+module _ (i : In) (o : Out) (h : Promise door i o) (v : verdict (refusals i) ≡ Ok tt) where
   has : Ready i
-  has = ready i v
+  has = ready i (sym v)
 
   pub columns_are : ColumnsAre i o
   columns_are p k is g = rw (is_work i o h v) (columns_hold i has p k is g)
@@ -56,7 +58,7 @@ module _ (i : In) (o : Out) (h : Promise door i o) (v : verdict (refusals i) ≡
   unfolding asks
   tally_is =
       let u = made_is i has in
-      let own = ap ended_of u.own in
+      let own = ap (λ (t : Tally). Ok (ended_of t)) u.own in
       rw (is_work i o h v) record {
         lent = u.lent;
         own = own;
@@ -71,11 +73,11 @@ compute_leaves i o h v = record { columns = columns_are i o h v; kept = rest_kep
 -- ---- combining
 
 -- one entry of a loaded particle is accepted
-accepts : (i : In) (c : Out) → Promise door i c → verdict (refusals i) ≡ 0 → (p : ℕ) (g out : List Float) → Loaded i p → 2 ≤ length g
-    → 2 * i.n ≤ length out → verdict (C.refusals (from i c p g out)) ≡ 0
+accepts : (i : In) (c : Out) → Promise door i c → verdict (refusals i) ≡ Ok tt → (p : ℕ) (g out : List Float) → Loaded i p → 2 ≤ length g
+    → 2 * i.n ≤ length out → verdict (C.refusals (from i c p g out)) ≡ Ok tt
 unfolding refusals later making_room C.refusals C.columns_room entries_room below every over fold
 accepts i c h v p g out is two room =
-    let f = all_pass 1 (refusals i) (omega arith) (in_order i) v in
+    let f = all_pass (refusals i) (sym v) in
     let r = enough_is true _ f.1.1.0 in
     let long = (rest_kept i c h v).long in
     let columns = enough_of true (C.columns_room i.n i.loaded i.column_of c.columns (2 * i.n) out) refl

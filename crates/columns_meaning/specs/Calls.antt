@@ -1,5 +1,6 @@
 -- THE TALLY OVER ANY SEQUENCE OF CALLS, computing the columns included: `step_doors` has it for a step solve and a response. From a fresh record the
 -- sum is the lesser of the cap and the number of step solves asked for, and each count is the number of its kind among the first so many.
+use Rattle.std.specs.Prelude.{Ok}
 use Rattle.std.specs.Prelude.{min, ◌*◌, ◌≡◌, List, [], ◌∷◌, ◌++◌, ◌⊎◌, length, take}
 use Rattle.std.proofs.Common.{inl, inr}
 use Rattle.law.specs.Limit.{tally}
@@ -8,12 +9,12 @@ use Rattle.law.specs.Promise.{Promise, by}
 use Rattle.step_tally.specs.declared.Tally.{Tally}
 use Rattle.step_tally.specs.declared.Kind.{Kind}
 use Rattle.step_tally.specs.declared.Kind.TheVariants.{Refused}
-use Rattle.step_tally.specs.declared.Asked.{Asked}
-use Rattle.step_tally.specs.declared.Asked.TheVariants.{One}
+use Rattle.step_tally.specs.Count.{Asked}
+use Rattle.std.specs.Prelude.{Some}
 use Rattle.step_tally.specs.Count.{total_of}
 use Rattle.step_tally.specs.Runs.{fresh, count_of, solves, of_kind}
 use Rattle.step_doors.specs.Calls as Step
-use Rattle.columns_make.specs.Making.{In, Out, given, refusals, door}
+use Rattle.columns_make.specs.Making.{In, Out, given, handed_system, handed_table, refusals, door}
 use Rattle.columns_meaning.specs.Solution.{asks}
 
 -- a call of `solve_step` or `response_into`, or of `compute_columns` with all that it is handed but the record
@@ -22,14 +23,12 @@ Call = Step.Call ⊎ In
 
 -- the same call with this record lent
 abbrev pub lending : In → Tally → In
-lending i t = given i.n i.row_offsets i.cols i.diagonal i.blocks i.perm i.inv_perm i.first i.row_start i.values
-    i.factored i.preconditioner i.tolerance i.max_iterations i.max_dense_dofs i.pinned i.loaded i.column_of i.columns
-    i.rhs i.scratch i.residual i.direction i.a_direction i.z t
+lending i t = given (handed_system i) (handed_table i) i.columns i.rhs i.scratch i.residual i.direction i.a_direction i.z t
 
 -- what it asks for: computing, refused, is one refused call; else each loaded particle's two solves
 abbrev pub asked : Call → List Asked
 asked (inl c) = Step.asks c ∷ []
-asked (inr i) = by (verdict (refusals i)) (asks i) (λ k. One Refused ∷ [])
+asked (inr i) = by (verdict (refusals i)) (asks i) (λ k. Some Refused ∷ [])
 
 unfoldable pub asks_of : List Call → List Asked
 asks_of [] = []
@@ -46,7 +45,7 @@ MadeAll (c ∷ l) t u = (v : Tally) × (Made c t v × MadeAll l v u)
 
 -- an accepted computing asks for two solves for each loaded particle
 abbrev pub AsksTwoEach : Type 0
-AsksTwoEach = (i : In) → verdict (refusals i) ≡ 0 → length (solves (asked (inr i))) ≡ 2 * i.loaded
+AsksTwoEach = (i : In) → verdict (refusals i) ≡ Ok tt → length (solves (asked (inr i))) ≡ 2 * i.loaded
 
 -- THE SUM, and EACH COUNT
 abbrev pub SumOfCalls : Type 0

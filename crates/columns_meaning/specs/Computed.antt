@@ -1,4 +1,5 @@
 -- WHAT COMPUTING THE COLUMNS LEAVES, where nothing is refused. It was handed i and came to o.
+use Rattle.std.specs.Prelude.{Result, Ok, Err}
 use Rattle.std.specs.Prelude.{ℕ, ◌+◌, ◌*◌, ◌<◌, ◌≡◌, length, drop}
 use Rattle.law.specs.Limit.{tally, unloaded}
 use Rattle.law.specs.Refusal.{verdict}
@@ -6,21 +7,21 @@ use Rattle.law.specs.Promise.{Promise, outcome}
 use Rattle.matrix_shape.specs.Rows.{at}
 use Rattle.step_tally.specs.declared.Kind.{Kind}
 use Rattle.step_tally.specs.declared.Kind.TheVariants.{Refused}
-use Rattle.step_tally.specs.declared.Asked.{Asked}
-use Rattle.step_tally.specs.declared.Asked.TheVariants.{One}
+use Rattle.step_tally.specs.Count.{Asked}
+use Rattle.std.specs.Prelude.{Some}
 use Rattle.step_tally.specs.Runs.{fresh, after}
 use Rattle.step_routes.specs.Dense.{cleared, swept}
 use Rattle.step_solve.specs.Stepping as S
 use Rattle.columns_table.specs.Columns.{column_of, columns_need}
-use Rattle.columns_make.specs.declared.Computed.{Computed}
-use Rattle.columns_make.specs.declared.Computed.TheVariants as computed
+use Rattle.law.specs.declared.refusal.Refusal.{Refusal}
+use Rattle.columns_make.specs.declared.Ended.{Ended}
 use Rattle.columns_make.specs.Making.{In, Out, dense, refusals, ended_of, door}
 use Rattle.columns_meaning.specs.Solution.{solve_for, solved, solution, asked_for, asks}
 
 -- the sum of the answer's six counts
-abbrev pub sum_of : Computed → ℕ
-sum_of (computed.Refused k) = 0
-sum_of (computed.Ended direct zero near converged curvature limit) = direct + zero + near + converged + curvature + limit
+abbrev pub sum_of : Result Ended Refusal → ℕ
+sum_of (Err k) = 0
+sum_of (Ok e) = e.direct + e.zero + e.near + e.converged + e.curvature + e.limit
 
 -- the particle has a column
 abbrev pub Loaded : In → ℕ → Type 0
@@ -46,12 +47,12 @@ pub record WorkZero (i : In) (o : Out) : Type 0 where
 
 -- a step solve that was not refused
 abbrev pub Ran : Asked → Type 0
-Ran a = (k : Kind) × ((a ≡ One k) × (k ≡ Refused → ⊥))
+Ran a = (k : Kind) × ((a ≡ Some k) × (k ≡ Refused → ⊥))
 
 -- the lent record is counted solve after solve, the cap in between; the answer's six counts are those of the same solves from a fresh record
 pub record TallyIs (i : In) (o : Out) : Type 0 where
   pub lent : o.tally ≡ after tally i.tally (asks i)
-  pub own : o.answer ≡ ended_of (after tally fresh (asks i))
+  pub own : o.answer ≡ Ok (ended_of (after tally fresh (asks i)))
   -- two solves for each loaded particle, none refused; so the six counts' sum is their number
   pub ran : (p k : ℕ) → Ran (asked_for i p k)
   pub many : length (asks i) ≡ 2 * i.loaded
@@ -65,8 +66,8 @@ pub record Leaves (i : In) (o : Out) : Type 0 where
   pub tally : TallyIs i o
 
 abbrev pub ComputeLeaves : Type 0
-ComputeLeaves = (i : In) (o : Out) → Promise door i o → verdict (refusals i) ≡ 0 → Leaves i o
+ComputeLeaves = (i : In) (o : Out) → Promise door i o → verdict (refusals i) ≡ Ok tt → Leaves i o
 
 -- the step solves are the ones that `solve_step` would make of the same lists: its door refuses none of them
 abbrev pub SolvesAreCalls : Type 0
-SolvesAreCalls = (i : In) → verdict (refusals i) ≡ 0 → (p k : ℕ) → outcome S.door (solve_for i p k) ≡ solved i p k
+SolvesAreCalls = (i : In) → verdict (refusals i) ≡ Ok tt → (p k : ℕ) → outcome S.door (solve_for i p k) ≡ solved i p k

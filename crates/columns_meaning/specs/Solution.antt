@@ -6,10 +6,10 @@ use Rattle.law.specs.Gather.{gather}
 use Rattle.plane.specs.Lent.{with_vector}
 use Rattle.matrix_shape.specs.Rows.{at}
 use Rattle.gradient_definition.specs.Vectors.{zeros}
-use Rattle.step_tally.specs.declared.Asked.{Asked}
+use Rattle.step_tally.specs.Count.{Asked}
 use Rattle.step_solve.specs.Stepping as S
 use Rattle.step_counts.specs.Counting.{asked_of}
-use Rattle.columns_make.specs.Making.{In, axis_of}
+use Rattle.columns_make.specs.Making.{In, handed_system, axis_of}
 
 -- zeros, and the unit vector along axis k at particle p
 unfoldable pub unit_at : ℕ → ℕ → ℕ → List Float
@@ -18,8 +18,7 @@ unit_at n p k = with_vector (zeros n) p (axis_of k)
 abbrev pub solve_for : In → ℕ → ℕ → S.In
 solve_for i p k =
     let none = zeros i.n in
-    S.given i.n i.row_offsets i.cols i.diagonal i.blocks i.perm i.inv_perm i.first i.row_start i.values i.factored
-    i.preconditioner (unit_at i.n p k) i.tolerance i.max_iterations i.max_dense_dofs none none none none none none
+    S.given (handed_system i) (unit_at i.n p k) none none none none none none
 
 unfoldable pub solved : In → ℕ → ℕ → S.Out
 solved i p k = S.work (solve_for i p k)

@@ -1,94 +1,63 @@
-// The number that computing the columns is refused by. Tests run in phases, so that none reads past a list's end.
-ghost use Rattle.std.specs.Prelude.{◌≡◌, true, ◌≤◌, length};
+// The refusals of computing the columns. Tests run in phases, so that none reads past a list's end.
+// The work lists stay parameters, as the work itself has them.
+ghost use Rattle.std.specs.Prelude.{◌≡◌, true, ◌≤◌};
 ghost use Rattle.law.specs.Limit.{particles};
 ghost use Rattle.law.specs.Refusal.{verdict};
 ghost use Rattle.law.specs.Room.{enough};
 ghost use Rattle.step_tally.specs.Runs.{fresh};
-ghost use Rattle.step_routes.specs.Dense.{Roomy};
+ghost use Rattle.step_routes.specs.Dense.{IsRoomySystem};
+ghost use Rattle.step_routes.specs.System.{system_of};
+ghost use Rattle.columns_table.specs.Lent.{numbers_of, HasPlaces};
 ghost use Rattle.columns_axes.specs.Axes.{given};
-ghost use Rattle.columns_refusals.specs.Refusing.{refusals, later, making_room};
+ghost use Rattle.columns_refusals.specs.Refusing.{refusals, later_of, making_room};
 
-use columns_table::table;
+use columns_table::table::Table;
+use law::refusal::{Refusal, ensure};
+use step_routes::dense;
+use step_routes::system::System;
 
 // Whether marks, table and columns have room.
-fn room(n: usize, pinned: &[u8], loaded: usize, column_of: &[u32], columns: &[f32]) -> bool
+#[tactic(auto, unfolding(law::specs::Room::enough, crate::specs::Refusing::making_room, columns_table::specs::Loading::table_room))]
+fn room(n: usize, table: &Table, columns: &[f32]) -> bool
     requires { n ≤ particles }
-    ensures { result ≡ enough true (making_room n pinned.now loaded column_of.now columns.now) }
+    ensures { result ≡ enough true (making_room n table.now.pinned.now table.now.loaded table.now.column_of.now columns.now) }
 {
-    (n <= pinned.len()) & (n <= column_of.len()) & table::columns_room(n, loaded, columns)
+    table.has_room(n) & table.columns_fit(n, columns)
 }
 
 // Pattern, table, plan and settings, once every list has its room.
-fn later(
-    dense: bool,
-    n: usize,
-    row_offsets: &[u32],
-    cols: &[u32],
-    diagonal: &[u32],
-    perm: &[u32],
-    inv_perm: &[u32],
-    first: &[u32],
-    row_start: &[u32],
-    pinned: &[u8],
-    loaded: usize,
-    column_of: &[u32],
-    tolerance: f32,
-    max_iterations: usize,
-) -> u8
-    requires roomy { Roomy dense n row_offsets.now cols.now diagonal.now perm.now inv_perm.now first.now row_start.now }
-    requires n_in_bounds { (n ≤ length pinned.now) × (n ≤ length column_of.now) }
-    ensures { result ≡ verdict (later dense n row_offsets.now cols.now diagonal.now perm.now
-        inv_perm.now first.now row_start.now pinned.now loaded column_of.now tolerance
-        max_iterations) }
+#[tactic(auto, unfolding(law::specs::Refusal::verdict, crate::specs::Refusing::later), using(matrix_shape::specs::Given::held, matrix_shape::specs::Given::pattern))]
+fn later(system: &System, table: &Table) -> Result<(), Refusal>
+    requires roomy { IsRoomySystem (system_of system.now) }
+    requires held { HasPlaces system.now.pattern.n (numbers_of table.now) }
+    ensures { result ≡ verdict (later_of (system_of system.now) (numbers_of table.now)) }
 {
-    if !matrix_test::given::pattern_formed(n, row_offsets, cols, diagonal) {
-        return law::refusal::BAD_PATTERN;
-    }
-    if !table::table_ok(n, pinned, loaded, column_of) {
-        return law::refusal::BAD_PLAN;
-    }
-    if !step_routes::dense::plan_fits(
-        dense,
-        n,
-        row_offsets,
-        cols,
-        diagonal,
-        perm,
-        inv_perm,
-        first,
-        row_start,
-    ) {
-        return law::refusal::BAD_PLAN;
-    }
-    if !step_routes::dense::plan_short(dense, n, perm, inv_perm, first, row_start) {
-        return law::refusal::LONG_ENVELOPE;
-    }
-    if !gradient_refusals::given::settings_ok(tolerance, max_iterations) {
-        return law::refusal::BAD_SETTINGS;
-    }
-    0
+    let dense = system.dense();
+    let n = system.pattern.n;
+    ensure(
+        matrix_test::given::pattern_formed(&system.pattern),
+        Refusal::BadPattern,
+    )?;
+    ensure(table.is_numbered(n), Refusal::BadPlan)?;
+    ensure(
+        dense::plan_fits(dense, &system.pattern, &system.plan),
+        Refusal::BadPlan,
+    )?;
+    ensure(
+        dense::plan_short(dense, n, &system.plan),
+        Refusal::LongEnvelope,
+    )?;
+    ensure(
+        gradient_refusals::given::settings_ok(system.settings),
+        Refusal::BadSettings,
+    )
 }
 
 // The lent record is not asked: the contract names a fresh one.
+#[tactic(auto, unfolding(law::specs::Refusal::verdict, crate::specs::Refusing::refusals), using(step_routes::specs::Dense::roomy, crate::specs::Refusing::has_room))]
 pub fn computing(
-    n: usize,
-    row_offsets: &[u32],
-    cols: &[u32],
-    diagonal: &[u32],
-    blocks: &[f32],
-    perm: &[u32],
-    inv_perm: &[u32],
-    first: &[u32],
-    row_start: &[u32],
-    values: &[f32],
-    factored: bool,
-    preconditioner: &[f32],
-    tolerance: f32,
-    max_iterations: usize,
-    max_dense_dofs: usize,
-    pinned: &[u8],
-    loaded: usize,
-    column_of: &[u32],
+    system: &System,
+    table: &Table,
     columns: &[f32],
     rhs: &[f32],
     scratch: &[f32],
@@ -96,57 +65,25 @@ pub fn computing(
     direction: &[f32],
     a_direction: &[f32],
     z: &[f32],
-) -> u8
-    ensures { result ≡ verdict (refusals (given n row_offsets.now cols.now diagonal.now blocks.now
-        perm.now inv_perm.now first.now row_start.now values.now factored
-        preconditioner.now tolerance max_iterations max_dense_dofs pinned.now loaded column_of.now
-        columns.now rhs.now scratch.now residual.now direction.now
-        a_direction.now z.now fresh)) }
+) -> Result<(), Refusal>
+    ensures { result ≡ verdict (refusals (given (system_of system.now) (numbers_of table.now) columns.now rhs.now scratch.now
+        residual.now direction.now a_direction.now z.now fresh)) }
 {
-    if law::PARTICLES < n {
-        return law::refusal::TOO_MANY_PARTICLES;
-    }
-    let dense = 2 * n <= max_dense_dofs;
-    if !step_routes::refuse::room(
-        dense,
-        n,
-        row_offsets,
-        cols,
-        diagonal,
-        blocks,
-        perm,
-        inv_perm,
-        first,
-        row_start,
-        values,
-        preconditioner,
-        rhs,
-        rhs,
-        scratch,
-        residual,
-        direction,
-        a_direction,
-        z,
-    ) {
-        return law::refusal::SHORT_BUFFER;
-    }
-    if !room(n, pinned, loaded, column_of, columns) {
-        return law::refusal::SHORT_BUFFER;
-    }
-    later(
-        dense,
-        n,
-        row_offsets,
-        cols,
-        diagonal,
-        perm,
-        inv_perm,
-        first,
-        row_start,
-        pinned,
-        loaded,
-        column_of,
-        tolerance,
-        max_iterations,
-    )
+    let n = system.pattern.n;
+    ensure(n <= law::PARTICLES, Refusal::TooManyParticles)?;
+    ensure(
+        step_routes::refuse::room(
+            system,
+            rhs,
+            rhs,
+            scratch,
+            residual,
+            direction,
+            a_direction,
+            z,
+        ),
+        Refusal::ShortBuffer,
+    )?;
+    ensure(room(n, table, columns), Refusal::ShortBuffer)?;
+    later(system, table)
 }

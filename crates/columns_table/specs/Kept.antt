@@ -1,14 +1,13 @@
 -- WHAT THE TWO CALLS LEAVE IS A TABLE: after clearing it numbers none, after an accepted loading as many as the call answers.
-use Rattle.std.specs.Prelude.{ℕ, ◌+◌, ◌<◌, ◌≡◌, ◌&&◌, List, ltb, eqb, length, drop, set, replicate}
+use Rattle.std.specs.Prelude.{ℕ, ◌+◌, ◌<◌, ◌≡◌, ◌&&◌, List, ltb, eqb, length, drop, set, replicate, Result, Ok, Err}
 use Rattle.std.proofs.Common.{sym, ap, ◌∙◌, ⊎_elim, arith, get_or-set_same, get_or-set_other, eqb-true}
 use Rattle.std.proofs.lemmas.List.{get_or-replicate, length-replicate}
 use Rattle.std.proofs.Math.ListN.{get_or-append}
 use Rattle.law.specs.Limit.{columns, unloaded}
 use Rattle.law.specs.Truth.{both, same_or, below_or, holds_or}
+use Rattle.law.specs.declared.refusal.Refusal.{Refusal}
 use Rattle.law.specs.Refusal.{verdict}
 use Rattle.matrix_shape.specs.Rows.{at}
-use Rattle.columns_table.specs.declared.Loaded.{Loaded}
-use Rattle.columns_table.specs.declared.Loaded.TheVariants.{Refused, Count}
 use Rattle.columns_table.specs.Table.{Numbered}
 use Rattle.columns_table.specs.Test.{numbered_is}
 use Rattle.columns_table.specs.Clearing.{emptied}
@@ -63,11 +62,11 @@ module _ (n : ℕ) (pinned : List ℕ) (count : ℕ) (table : List ℕ) (w : Num
   }
 
 -- how many an answer says
-abbrev pub count_of : Loaded → ℕ
-count_of (Refused k) = 0
-count_of (Count count) = count
+abbrev pub count_of : Result ℕ Refusal → ℕ
+count_of (Err k) = 0
+count_of (Ok count) = count
 
-pub loading_keeps : (i : In) → verdict (refusals i) ≡ 0 → Numbered i.n i.pinned (count_of (work i).answer) (work i).column_of
+pub loading_keeps : (i : In) → Ok tt ≡ verdict (refusals i) → Numbered i.n i.pinned (count_of (work i).answer) (work i).column_of
 unfolding work is_new
 loading_keeps i h =
     let r = ready i h in

@@ -4,5 +4,6 @@ pub mod Pass
 pub mod Columns
 pub mod Said
 pub mod Clearing
+pub mod Lent
 pub mod Loading
 pub mod Kept

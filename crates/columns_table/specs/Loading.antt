@@ -1,9 +1,10 @@
 -- THE DOOR `load_particle`: a new, unpinned particle has the next number; loading a pinned one, or one twice, changes nothing.
-use Rattle.std.specs.Prelude.{ℕ, ◌+◌, ◌≤◌, ◌<◌, ◌≡◌, Bool, true, false, ◌&&◌, not, cond, List, [], ◌∷◌, leb, ltb, eqb, length, set}
+use Rattle.std.specs.Prelude.{ℕ, ◌+◌, ◌≤◌, ◌<◌, ◌≡◌, Bool, true, false, ◌&&◌, not, cond, List, [], ◌∷◌, leb, ltb, eqb, length, set, Result, Ok, Err}
 use Rattle.std.proofs.Common.{⊎_elim, arith, leb-true, ltb-true, le-leb}
 use Rattle.std.proofs.lemmas.Bool.{not-true, not-false}
 use Rattle.law.specs.Limit.{particles, columns, unloaded}
-use Rattle.law.specs.Number.{too_many_particles, too_many_entries, short_buffer, out_of_range, bad_plan}
+use Rattle.law.specs.declared.refusal.Refusal.{Refusal}
+use Rattle.law.specs.declared.refusal.Refusal.TheVariants.{TooManyParticles, TooManyEntries, ShortBuffer, OutOfRange, BadPlan}
 use Rattle.law.specs.Room.{Room, enough}
 use Rattle.law.proofs.Room.{enough_is}
 use Rattle.law.specs.Truth.{both, and_true, below_or, clash}
@@ -12,8 +13,6 @@ use Rattle.law.proofs.Refusals.{all_pass}
 use Rattle.law.specs.Promise.{Door}
 use Rattle.law.specs.Said.{Said}
 use Rattle.matrix_shape.specs.Rows.{at}
-use Rattle.columns_table.specs.declared.Loaded.{Loaded}
-use Rattle.columns_table.specs.declared.Loaded.TheVariants.{Refused, Count}
 use Rattle.columns_table.specs.Said.{loaded_said}
 use Rattle.columns_table.specs.Table.{table_ok}
 
@@ -25,14 +24,14 @@ pub record In : Type 0 where
   pub column_of : List ℕ
 
 pub record Out : Type 0 where
-  pub answer : Loaded
+  pub answer : Result ℕ Refusal
   pub said : Said
   pub column_of : List ℕ
 
 abbrev pub given : ℕ → List ℕ → ℕ → ℕ → List ℕ → In
 given n pinned loaded particle table = record { n = n; pinned = pinned; loaded = loaded; particle = particle; column_of = table }
 
-abbrev pub left : Loaded → List ℕ → Out
+abbrev pub left : Result ℕ Refusal → List ℕ → Out
 left r table = record { answer = r; said = loaded_said r; column_of = table }
 
 -- new, as far as the lists show it: the particle is below n and has its place in both, unpinned and unloaded
@@ -46,11 +45,11 @@ table_room n pinned table = (n, length pinned) ∷ (n, length table) ∷ []
 -- THE REFUSALS. One more than 16 comes before the room: its test looks only where there is a place
 unfoldable pub refusals : In → List Test
 refusals i =
-    unless too_many_particles (leb i.n particles)
-    ∷ unless too_many_entries (not (is_new i.n i.pinned i.column_of i.particle && leb columns i.loaded))
-    ∷ unless short_buffer (enough true (table_room i.n i.pinned i.column_of))
-    ∷ unless out_of_range (ltb i.particle i.n)
-    ∷ unless bad_plan (table_ok i.n i.pinned i.loaded i.column_of)
+    unless TooManyParticles (leb i.n particles)
+    ∷ unless TooManyEntries (not (is_new i.n i.pinned i.column_of i.particle && leb columns i.loaded))
+    ∷ unless ShortBuffer (enough true (table_room i.n i.pinned i.column_of))
+    ∷ unless OutOfRange (ltb i.particle i.n)
+    ∷ unless BadPlan (table_ok i.n i.pinned i.loaded i.column_of)
     ∷ []
 
 pub in_order : (i : In) → Rising 1 (refusals i)
@@ -59,11 +58,16 @@ in_order i = (omega arith, (omega arith, (omega arith, (omega arith, (omega arit
 
 -- THE WORK
 unfoldable pub work : In → Out
-work i = cond (is_new i.n i.pinned i.column_of i.particle) (left (Count (i.loaded + 1)) (set i.column_of i.particle i.loaded))
-    (left (Count i.loaded) i.column_of)
+work i = cond (is_new i.n i.pinned i.column_of i.particle) (left (Ok (i.loaded + 1)) (set i.column_of i.particle i.loaded))
+    (left (Ok i.loaded) i.column_of)
 
 abbrev pub door : Door In Out
-door = record { tests = refusals; in_order = in_order; work = work; refuse = λ k i. left (Refused k) i.column_of }
+door = record { tests = refusals; in_order = in_order; work = work; refuse = λ k i. left (Err k) i.column_of }
+
+-- what the test of room says, once it has passed
+pub held : (n : ℕ) (pinned table : List ℕ) → enough true (table_room n pinned table) ≡ true → (n ≤ length pinned) × (n ≤ length table)
+unfolding table_room
+held n pinned table h = let e = enough_is true (table_room n pinned table) h in (e.0, e.1.0)
 
 -- ---- what the work requires
 
@@ -76,10 +80,10 @@ pub record Ready (i : In) : Type 0 where
   -- a new one has a number left
   pub room : is_new i.n i.pinned i.column_of i.particle ≡ true → i.loaded < columns
 
-pub ready : (i : In) → verdict (refusals i) ≡ 0 → Ready i
+pub ready : (i : In) → Ok tt ≡ verdict (refusals i) → Ready i
 unfolding refusals table_room
 ready i h =
-    let p = all_pass 1 (refusals i) (omega arith) (in_order i) h in
+    let p = all_pass (refusals i) h in
     let e = enough_is true (table_room i.n i.pinned i.column_of) p.1.1.0 in
     let full = is_new i.n i.pinned i.column_of i.particle && leb columns i.loaded in
     record {
@@ -113,11 +117,11 @@ module _ (n : ℕ) (pinned table : List ℕ) (p : ℕ) where
 
 -- ---- the two ends of the work
 
-pub loads_none : (i : In) → is_new i.n i.pinned i.column_of i.particle ≡ false → left (Count i.loaded) i.column_of ≡ work i
+pub loads_none : (i : In) → is_new i.n i.pinned i.column_of i.particle ≡ false → left (Ok i.loaded) i.column_of ≡ work i
 unfolding work
 loads_none i h = rw h
 
 pub loads_one : (i : In) → is_new i.n i.pinned i.column_of i.particle ≡ true
-    → left (Count (i.loaded + 1)) (set i.column_of i.particle i.loaded) ≡ work i
+    → left (Ok (i.loaded + 1)) (set i.column_of i.particle i.loaded) ≡ work i
 unfolding work
 loads_one i h = rw h

@@ -1,7 +1,9 @@
 -- THE TEST IN ONE PASS: entries are looked at one after the other, and a list of counts has how often each number was met.
-use Rattle.std.specs.Prelude.{ℕ, zero, suc, ◌+◌, ◌≤◌, ◌<◌, ◌≡◌, Bool, not, ◌&&◌, List, ltb, length, set, replicate}
+use Rattle.std.specs.List.{list_all}
+use Rattle.std.proofs.lemmas.List.Folds.{list_all_more}
+use Rattle.std.specs.Prelude.{ℕ, zero, suc, ◌+◌, ◌≤◌, ◌<◌, ◌≡◌, Bool, not, ◌&&◌, List, ltb, length, set, take, replicate}
 use Rattle.std.proofs.Math.Path.{refl, sym, ap}
-use Rattle.std.proofs.Common.{◌∙◌, arith, get_or-set_same, ltb-true, lt-ltb, eqb-true, eq-eqb, ne_eqb, le-leb}
+use Rattle.std.proofs.Common.{◌∙◌, add-one, arith, get_or-set_same, ltb-true, lt-ltb, eqb-true, eq-eqb, ne_eqb, le-leb}
 use Rattle.std.proofs.Math.Bool.{true, false, and-false}
 use Rattle.std.proofs.Math.Logic.{⊎_elim}
 use Rattle.std.proofs.Math.Dec.{eqb}
@@ -41,6 +43,13 @@ pub times_most : (table : List ℕ) (c k : ℕ) → times k table c ≤ k
 unfolding times sum
 times_most table c zero = omega arith
 times_most table c (suc k) = omega (arith, times_most table c k, bit_most (eqb (at table k) c))
+
+-- the counts 0..n are 1, as the code asks it
+pub once_each : (seen : List ℕ) (n : ℕ) → n ≤ length seen → list_all (λ s. eqb s 1) (take n seen) ≡ every (λ c. eqb (at seen c) 1) 0 n
+once_each seen zero l = every_none (λ c. eqb (at seen c) 1) 0
+once_each seen (suc n) l =
+    rw (← add-one n) (list_all_more (λ s. eqb s 1) seen n 0 (omega arith) ∙ ap (λ (t : Bool). t && eqb (at seen n) 1) (once_each seen n (omega arith))
+    ∙ every_more (λ c. eqb (at seen c) 1) 0 n (omega arith))
 
 module _ (pinned : List ℕ) (count : ℕ) (table : List ℕ) where
   pub met_none : (m : ℕ) → count ≤ m → Met pinned count table 0 (replicate m 0)

@@ -1,9 +1,9 @@
 -- WHAT CLEARING AND LOADING SAY: how many particles are loaded then.
-use Rattle.std.specs.Prelude.{[], ◌∷◌}
+use Rattle.std.specs.Prelude.{ℕ, [], ◌∷◌, Result, Ok, Err}
+use Rattle.law.specs.declared.refusal.Refusal.{Refusal}
+use Rattle.law.specs.Number.{number}
 use Rattle.law.specs.Said.{Said, refused, carries}
-use Rattle.columns_table.specs.declared.Loaded.{Loaded}
-use Rattle.columns_table.specs.declared.Loaded.TheVariants as loaded
 
-abbrev pub loaded_said : Loaded → Said
-loaded_said (loaded.Refused k) = refused k
-loaded_said (loaded.Count count) = carries 0 (count ∷ []) []
+abbrev pub loaded_said : Result ℕ Refusal → Said
+loaded_said (Err k) = refused (number k)
+loaded_said (Ok count) = carries 0 (count ∷ []) []

@@ -1,6 +1,6 @@
 -- THE TABLE OF COLUMNS: for each particle the number of its column, or `unloaded`. That it numbers unpinned particles 0, 1, 2 up to its count,
 -- each once, as a sentence (`Numbered`) and as a test (`table_ok`), each following from the other (Test.antt). Places past n are not looked at.
-use Rattle.std.specs.Prelude.{ℕ, ◌≤◌, ◌<◌, ◌≡◌, Bool, ◌&&◌, ◌||◌, List, ltb, leb, eqb}
+use Rattle.std.specs.Prelude.{ℕ, ◌≤◌, ◌<◌, ◌≡◌, Bool, ◌&&◌, ◌||◌, Option, None, Some, List, ltb, leb, eqb}
 use Rattle.law.specs.Limit.{columns, unloaded}
 use Rattle.law.specs.Every.{every}
 use Rattle.law.specs.Sum.{sum, bit}
@@ -14,6 +14,11 @@ pub record Numbered (n : ℕ) (pinned : List ℕ) (count : ℕ) (table : List �
   pub unpinned : (p : ℕ) → p < n → (at table p ≡ unloaded → ⊥) → at pinned p ≡ 0
   pub each : (c : ℕ) → c < count → (p : ℕ) × ((p < n) × (at table p ≡ c))
   pub once : (p q : ℕ) → p < n → q < n → (at table p ≡ unloaded → ⊥) → at table p ≡ at table q → p ≡ q
+
+-- what a particle's place in a table says of its column
+abbrev pub column_is : ℕ → Option ℕ → Type 0
+column_is place None = place ≡ unloaded
+column_is place (Some c) = (c ≡ place) × (c < unloaded)
 
 -- THE TEST. A particle's own entry is in order
 unfoldable pub entry_ok : List ℕ → ℕ → List ℕ → ℕ → Bool

@@ -4,10 +4,3 @@
 
 pub mod refuse;
 pub mod table;
-
-// How many particles are loaded then.
-#[derive(Clone, Copy)]
-pub enum Loaded {
-    Refused(u8),
-    Count(usize),
-}

@@ -2,6 +2,8 @@
 use Prim.Native.Nat.{ℕ, ◌+◌, ◌-◌, ◌*◌, ◌≤◌, ◌<◌}
 use mathlib.Core.Path.{◌≡◌, refl, sym, ap, ◌∙◌}
 use mathlib.Core.Bool.{true}
+use Rattle.std.specs.Prelude.{Ok, Err}
+use Rattle.law.specs.declared.refusal.Refusal.{Refusal}
 use mathlib.Core.List.{List}
 use mathlib.Core.Logic.{inl, inr, ⊎_elim}
 use native.Mathlib.Omega.{arith}
@@ -21,14 +23,12 @@ use Rattle.plan_fits.proofs.Fits.{fits_is}
 use Rattle.plan_fits.specs.Given.{factor_length}
 use Rattle.plan_fits.specs.Cells.{Skyline, skyline_of, Cell, place, held}
 use Rattle.factor_load.specs.Permuted.{Matrix}
-use Rattle.factor_make.specs.declared.Factored as outcome
-use Rattle.factor_make.specs.declared.Factored.TheVariants as outcomes
+use Rattle.factor_make.specs.Factored as outcome
 use Rattle.factor_make.specs.Entry.{Finished, Ended, Cholesky}
 use Rattle.factor_make.proofs.Meaning.{cholesky_kept}
 use Rattle.factor_make.proofs.Matrix.{matrix_cholesky, matrix_long}
 use Rattle.factor_make.proofs.Only.{only}
-use Rattle.factor_doors.specs.Factorizing.{In, Out, left, values_room, refusals, answer_of, state_of, work, door}
-use Rattle.factor_doors.specs.declared.Factored.TheVariants.{Refused, Done, Failed}
+use Rattle.factor_doors.specs.Factorizing.{In, Out, Answer, left, values_room, refusals, state_of, work, door}
 use Rattle.factor_cholesky.specs.Factorize.{Accepted, matrix_in, entries_in, Leaves, Answered}
 
 -- two answers that are told apart
@@ -37,21 +37,21 @@ never e = omega arith
 
 -- ---- what an ending says
 
+abbrev pub answered : outcome.Factored → Answer
+answered h = Ok h
+
 module _ (m : ℕ) (f : ℕ → ℕ) (a l : Matrix) where
-  when_done : (h : outcome.Factored) → Cholesky m f a l h → answer_of h ≡ Done → Finished m f a l
-  when_done outcomes.Done w e = w
-  when_done (outcomes.Failed r d) w e = absurd (never (cc))
+  when_done : (h : outcome.Factored) → Cholesky m f a l h → answered h ≡ Ok (Ok tt) → Finished m f a l
+  when_done (Ok _) w e = w
+  when_done (Err x) w e = absurd (never (cc))
 
-  when_failed : (h : outcome.Factored) → Cholesky m f a l h → (r : ℕ) (d : Float) → answer_of h ≡ Failed r d → Ended m f a l r d
-  when_failed outcomes.Done w r d e = absurd (never (cc))
-  when_failed (outcomes.Failed q c) w r d e =
-      let row : q ≡ r = cc in
-      let pivot : c ≡ d = cc in
-      rw (row, pivot) at w
+  when_failed : (h : outcome.Factored) → Cholesky m f a l h → (r : ℕ) (d : Float) → answered h ≡ Ok (Err (outcome.failed r d)) → Ended m f a l r d
+  when_failed (Ok _) w r d e = absurd (never (cc))
+  when_failed (Err x) w r d e = let same : x ≡ outcome.failed r d = cc in rw same at w
 
-unrefused : (h : outcome.Factored) (k : ℕ) → answer_of h ≡ Refused k → ⊥
-unrefused outcomes.Done k e = never (cc)
-unrefused (outcomes.Failed r d) k e = never (cc)
+unrefused : (h : outcome.Factored) (k : Refusal) → answered h ≡ Err k → ⊥
+unrefused (Ok _) k e = never (cc)
+unrefused (Err x) k e = never (cc)
 
 -- every place before the envelope's end is an entry's
 placed : {m : ℕ} {f s : ℕ → ℕ} → Skyline m f s → (k : ℕ) → k < s m → (r : ℕ) × ((c : ℕ) × (Cell m f r c × (place f s r c ≡ k)))
@@ -124,19 +124,19 @@ module _ (i : In) (a : Accepted i) where
   }
 
   pub one_factor : (l : Matrix) (h : outcome.Factored) → Cholesky (2 * i.n) (at i.first) (matrix_in i) l h
-      → ((work i).answer ≡ answer_of h) × ((r c : ℕ) → Cell (2 * i.n) (at i.first) r c → entries_in i (work i).values r c ≡ l r c)
+      → ((work i).answer ≡ answered h) × ((r c : ℕ) → Cell (2 * i.n) (at i.first) r c → entries_in i (work i).values r c ≡ l r c)
   unfolding work
   one_factor l h w =
       let t = only (2 * i.n) (at i.first) sky.low (matrix_in i) (entries_in i (work i).values) l (state_of i).how h whole w in
-      (ap answer_of t.0, t.1)
+      (ap answered t.0, t.1)
 
-  told : (v : List Float) (h : outcome.Factored) → (work i).answer ≡ answer_of h → (work i).values ≡ v → work i ≡ left (answer_of h) v
+  told : (v : List Float) (h : outcome.Factored) → (work i).answer ≡ answered h → (work i).values ≡ v → work i ≡ left (answered h) v
   unfolding work
   told v h e g = rw (e, g)
 
   pub one_list : (v : List Float) (h : outcome.Factored) → length v ≡ length i.values
       → drop (factor_length i.n i.row_start) v ≡ drop (factor_length i.n i.row_start) i.values
-      → Cholesky (2 * i.n) (at i.first) (matrix_in i) (entries_in i v) h → work i ≡ left (answer_of h) v
+      → Cholesky (2 * i.n) (at i.first) (matrix_in i) (entries_in i v) h → work i ≡ left (answered h) v
   unfolding factor_length
   one_list v h long rest w =
       let t = one_factor (entries_in i v) h w in
@@ -149,7 +149,7 @@ module _ (i : In) (o : Out) where
   accepted_of : IsWork door i o → Accepted i
   unfolding refusals
   accepted_of w =
-      let p = zero_is door i w.0 in
+      let p = zero_is door i (sym w.0) in
       record {
         few = leb-true _ _ p.0;
         held = p.1.0;
@@ -160,7 +160,7 @@ module _ (i : In) (o : Out) where
         short = leb-true _ _ p.1.1.1.1.1.1.0;
       }
 
-  leaves_refusal : (k : ℕ) → IsRefusal door i o k → Leaves i o
+  leaves_refusal : (k : Refusal) → IsRefusal door i o k → Leaves i o
   leaves_refusal k r = rw r.1.1 (record {
     done = λ e. absurd (never (cc));
     failed = λ q d e. absurd (never (cc));
@@ -177,20 +177,20 @@ module _ (i : In) (o : Out) where
     unfolding refusals
     works a =
         let z = zero_from door i (le-leb _ _ a.few, (a.held, (a.planned, (a.room, (a.well, (a.fits, (le-leb _ _ a.short, tt))))))) in
-        one_outcome door i o (work i) h (accepts door i 0 (sym z) refl (work i) refl)
+        one_outcome door i o (work i) h (accepts door i (sym z) (work i) refl)
 
     pub answers : Accepted i → Answered o
     unfolding work
     answers a = by (state_of i).how (ap (λ (x : Out). x.answer) (works a))
       where
-        by : (g : outcome.Factored) → o.answer ≡ answer_of g → Answered o
-        by outcomes.Done e = inl e
-        by (outcomes.Failed r d) e = inr (r, (d, e))
+        by : (g : outcome.Factored) → o.answer ≡ answered g → Answered o
+        by (Ok _) e = inl e
+        by (Err x) e = inr (x.row, (x.pivot, e))
 
     pub accepted : Answered o → Accepted i
     accepted t = ⊎_elim accepted_of (λ r. absurd (none r.0 r.1)) (work_or_refusal door i o h)
       where
-        none : (k : ℕ) → IsRefusal door i o k → ⊥
+        none : (k : Refusal) → IsRefusal door i o k → ⊥
         none k r =
-            let e : o.answer ≡ Refused k = ap (λ (x : Out). x.answer) r.1.1 in
+            let e : o.answer ≡ Err k = ap (λ (x : Out). x.answer) r.1.1 in
             ⊎_elim (λ d. never (cc)) (λ d. let g = d.1.1 in never (cc)) t

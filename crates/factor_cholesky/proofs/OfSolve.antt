@@ -2,6 +2,8 @@
 use Prim.Native.Nat.{ℕ, ◌+◌, ◌-◌, ◌*◌, ◌/◌, ◌%◌, ◌≤◌, ◌<◌}
 use mathlib.Core.Path.{◌≡◌, refl, sym, ap, ◌∙◌}
 use mathlib.Core.Bool.{true}
+use Rattle.std.specs.Prelude.{Ok, Err}
+use Rattle.law.specs.declared.refusal.Refusal.{Refusal}
 use mathlib.Core.List.{List, ◌++◌}
 use mathlib.Core.Logic.{⊎_elim}
 use native.Mathlib.Omega.{arith}
@@ -31,7 +33,6 @@ use Rattle.factor_passes.proofs.PassMeaning.{summed, forward_long, forward_is, b
 use Rattle.factor_substitution.specs.Solve.{permuted, placed_of, solve_of}
 use Rattle.factor_substitution.specs.Meaning.{solve_gives}
 use Rattle.factor_doors.specs.Solving.{In, Out, values_room, refusals, work, door}
-use Rattle.factor_doors.specs.declared.Solved.TheVariants.{Refused, Done}
 use Rattle.factor_cholesky.proofs.OfFactorize.{never}
 use Rattle.factor_cholesky.specs.Solve.{Accepted, row_in, Substituted, Leaves}
 
@@ -164,25 +165,25 @@ module _ (i : In) (o : Out) (h : Promise door i o) where
   unfolding refusals
   works a =
       let z = zero_from door i (le-leb _ _ a.few, (a.planned, (a.room, (a.fits, (le-leb _ _ a.short, tt))))) in
-      one_outcome door i o (work i) h (accepts door i 0 (sym z) refl (work i) refl)
+      one_outcome door i o (work i) h (accepts door i (sym z) (work i) refl)
 
-  pub answers : Accepted i → o.answer ≡ Done
+  pub answers : Accepted i → o.answer ≡ Ok tt
   unfolding work
   answers a = ap (λ (x : Out). x.answer) (works a)
 
-  pub accepted : o.answer ≡ Done → Accepted i
+  pub accepted : o.answer ≡ Ok tt → Accepted i
   unfolding refusals
   accepted e =
       let w : IsWork door i o = ⊎_elim (λ w. w) (λ r.
-      let g : o.answer ≡ Refused r.0 = ap (λ (x : Out). x.answer) r.1.1.1 in
+      let g : o.answer ≡ Err r.0 = ap (λ (x : Out). x.answer) r.1.1.1 in
       absurd (never (cc))) (work_or_refusal door i o h) in
-      let p = zero_is door i w.0 in
+      let p = zero_is door i (sym w.0) in
       record { few = leb-true _ _ p.0; planned = p.1.0; room = p.1.1.0; fits = p.1.1.1.0; short = leb-true _ _ p.1.1.1.1.0 }
 
-  pub untouched : (k : ℕ) → o.answer ≡ Refused k → (o.x ≡ i.x) × (o.scratch ≡ i.scratch)
+  pub untouched : (k : Refusal) → o.answer ≡ Err k → (o.x ≡ i.x) × (o.scratch ≡ i.scratch)
   unfolding work
   untouched k e =
       ⊎_elim (λ w.
-      let g : o.answer ≡ Done = ap (λ (x : Out). x.answer) w.1 in
+      let g : o.answer ≡ Ok tt = ap (λ (x : Out). x.answer) w.1 in
       absurd (never (cc)))
       (λ r. (ap (λ (x : Out). x.x) r.1.1.1, ap (λ (x : Out). x.scratch) r.1.1.1)) (work_or_refusal door i o h)

@@ -2,6 +2,8 @@
 use Prim.Native.Nat.{ℕ, ◌*◌, ◌≤◌, ◌<◌}
 use mathlib.Core.Path.{◌≡◌, refl, sym, ap, ◌∙◌}
 use mathlib.Core.Bool.{Bool, true, false}
+use Rattle.std.specs.Prelude.{Ok, Err}
+use Rattle.law.specs.declared.refusal.Refusal.{Refusal}
 use mathlib.Core.Logic.{inl, inr, ⊎_elim}
 use lib.Ieee.{Float}
 use borrow.Author.Tests.{leb-true, le-leb, lt-leb}
@@ -16,16 +18,13 @@ use Rattle.matrix_shape.specs.Rows.{at}
 use Rattle.plan_fits.specs.Given.{plan_room}
 use Rattle.plan_fits.specs.Cells.{Cell}
 use Rattle.factor_load.specs.Permuted.{Matrix}
-use Rattle.factor_make.specs.declared.Factored as outcome
-use Rattle.factor_make.specs.declared.Factored.TheVariants as outcomes
+use Rattle.factor_make.specs.Factored as outcome
 use Rattle.factor_make.specs.Entry.{Cholesky}
-use Rattle.factor_doors.specs.declared.Factored.{Factored}
-use Rattle.factor_doors.specs.declared.Factored.TheVariants as factors
 use Rattle.factor_doors.specs.Factorizing as F
 use Rattle.gradient_doors.specs.Updating.{inverses_room}
 use Rattle.step_routes.specs.Dense.{plan_held, structural, held_values}
 use Rattle.step_solve.specs.Marking.{In, Out, left, dense, for_factor, refusals, renewed, mark_of, settled, work, door}
-use Rattle.step_solve.specs.declared.Marked.TheVariants.{Refused, Direct, Failed, Iterative}
+use Rattle.step_solve.specs.declared.Marked.TheVariants.{Direct, Failed, Iterative}
 use Rattle.factor_cholesky.specs.Factorize as factor
 use Rattle.factor_cholesky.specs.StepMatrix.{Accepted, step_matrix, step_entries, Leaves, ByFactor, Answers}
 use Rattle.factor_cholesky.proofs.OfFactorize as made
@@ -33,25 +32,25 @@ use Rattle.factor_cholesky.proofs.OfFactorize.{never}
 
 -- ---- which factorization a mark comes of
 
-mark_direct : (g : Factored) → mark_of g ≡ Direct → g ≡ factors.Done
-mark_direct (factors.Refused k) e = absurd (never (cc))
-mark_direct factors.Done e = refl
-mark_direct (factors.Failed r d) e = absurd (never (cc))
+mark_direct : (g : F.Answer) → mark_of g ≡ Ok Direct → g ≡ Ok (Ok tt)
+mark_direct (Err k) e = absurd (never (cc))
+mark_direct (Ok (Ok _)) e = refl
+mark_direct (Ok (Err x)) e = absurd (never (cc))
 
-mark_failed : (g : Factored) (r : ℕ) (d : Float) → mark_of g ≡ Failed r d → g ≡ factors.Failed r d
-mark_failed (factors.Refused k) r d e = absurd (never (cc))
-mark_failed factors.Done r d e = absurd (never (cc))
-mark_failed (factors.Failed q c) r d e = let row : q ≡ r = cc in let pivot : c ≡ d = cc in rw (row, pivot)
+mark_failed : (g : F.Answer) (r : ℕ) (d : Float) → mark_of g ≡ Ok (Failed r d) → g ≡ Ok (Err (outcome.failed r d))
+mark_failed (Err k) r d e = absurd (never (cc))
+mark_failed (Ok (Ok _)) r d e = absurd (never (cc))
+mark_failed (Ok (Err x)) r d e = let row : x.row ≡ r = cc in let pivot : x.pivot ≡ d = cc in rw (← row, ← pivot)
 
-mark_refused : (g : Factored) (k : ℕ) → mark_of g ≡ Refused k → g ≡ factors.Refused k
-mark_refused (factors.Refused j) k e = let number : j ≡ k = cc in rw number
-mark_refused factors.Done k e = absurd (never (cc))
-mark_refused (factors.Failed r d) k e = absurd (never (cc))
+mark_refused : (g : F.Answer) (k : Refusal) → mark_of g ≡ Err k → g ≡ Err k
+mark_refused (Err j) k e = let same : j ≡ k = cc in rw same
+mark_refused (Ok (Ok _)) k e = absurd (never (cc))
+mark_refused (Ok (Err x)) k e = absurd (never (cc))
 
-mark_none : (g : Factored) → mark_of g ≡ Iterative → ⊥
-mark_none (factors.Refused k) e = never (cc)
-mark_none factors.Done e = never (cc)
-mark_none (factors.Failed r d) e = never (cc)
+mark_none : (g : F.Answer) → mark_of g ≡ Ok Iterative → ⊥
+mark_none (Err k) e = never (cc)
+mark_none (Ok (Ok _)) e = never (cc)
+mark_none (Ok (Err x)) e = never (cc)
 
 -- ---- the work
 
@@ -73,7 +72,7 @@ module _ (i : In) where
   by_factor h = rw (le-leb _ _ h)
 
   abbrev unfactored : Out
-  unfactored = left Iterative i.values (renewed i.n i.diagonal i.blocks i.preconditioner)
+  unfactored = left (Ok Iterative) i.values (renewed i.n i.diagonal i.blocks i.preconditioner)
 
   by_iteration : i.max_dense_dofs < 2 * i.n → work i ≡ unfactored
   unfolding work
@@ -149,7 +148,7 @@ module _ (i : In) where
 -- ---- the call
 
 module _ (i : In) (o : Out) where
-  leaves_refusal : (k : ℕ) → IsRefusal door i o k → Leaves i o
+  leaves_refusal : (k : Refusal) → IsRefusal door i o k → Leaves i o
   leaves_refusal k r = rw r.1.1 (record {
     direct = λ e. absurd (never (cc));
     spared = λ e. refl;
@@ -164,31 +163,31 @@ module _ (i : In) (o : Out) where
   module _ (h : Promise door i o) where
     pub leaves : Leaves i o
     leaves =
-        ⊎_elim (λ w. rw w.1 (leaves_work i (accepted_of i (zero_is door i w.0)))) (λ r. leaves_refusal r.0 r.1) (work_or_refusal door i o h)
+        ⊎_elim (λ w. rw w.1 (leaves_work i (accepted_of i (zero_is door i (sym w.0))))) (λ r. leaves_refusal r.0 r.1) (work_or_refusal door i o h)
 
     works : Accepted i → o ≡ work i
-    works a = one_outcome door i o (work i) h (accepts door i 0 (sym (zero_from door i (passed i a))) refl (work i) refl)
+    works a = one_outcome door i o (work i) h (accepts door i (sym (zero_from door i (passed i a))) (work i) refl)
 
     factors_by : Accepted i → 2 * i.n ≤ i.max_dense_dofs → ByFactor o
     unfolding F.work
     factors_by a l = by (F.state_of (for_factor i)).how (ap (λ (x : Out). x.answer) (works a ∙ by_factor i l))
       where
-        by : (g : outcome.Factored) → o.answer ≡ mark_of (F.answer_of g) → ByFactor o
-        by outcomes.Done e = inl e
-        by (outcomes.Failed r d) e = inr (r, (d, e))
+        by : (g : outcome.Factored) → o.answer ≡ mark_of (Ok g) → ByFactor o
+        by (Ok _) e = inl e
+        by (Err x) e = inr (x.row, (x.pivot, e))
 
-    iterates_by : Accepted i → i.max_dense_dofs < 2 * i.n → o.answer ≡ Iterative
+    iterates_by : Accepted i → i.max_dense_dofs < 2 * i.n → o.answer ≡ Ok Iterative
     iterates_by a l = ap (λ (x : Out). x.answer) (works a ∙ by_iteration i l)
 
     -- an answer that is no refusal is of an accepted call
-    accepted : ((k : ℕ) → o.answer ≡ Refused k → ⊥) → Accepted i
-    accepted none = ⊎_elim (λ w. accepted_of i (zero_is door i w.0))
+    accepted : ((k : Refusal) → o.answer ≡ Err k → ⊥) → Accepted i
+    accepted none = ⊎_elim (λ w. accepted_of i (zero_is door i (sym w.0)))
         (λ r. absurd (none r.0 (ap (λ (x : Out). x.answer) r.1.1.1))) (work_or_refusal door i o h)
 
-    unlike : ByFactor o → (k : ℕ) → o.answer ≡ Refused k → ⊥
+    unlike : ByFactor o → (k : Refusal) → o.answer ≡ Err k → ⊥
     unlike t k e = ⊎_elim (λ d. never (cc)) (λ d. let g = d.1.1 in never (cc)) t
 
-    apart : ByFactor o → o.answer ≡ Iterative → ⊥
+    apart : ByFactor o → o.answer ≡ Ok Iterative → ⊥
     apart t e = ⊎_elim (λ d. never (cc)) (λ d. let g = d.1.1 in never (cc)) t
 
     pub answers : Answers i o
@@ -202,7 +201,7 @@ module _ (i : In) (o : Out) where
     }
 
     pub one_factor : Accepted i → 2 * i.n ≤ i.max_dense_dofs → (l : Matrix) (g : outcome.Factored) → Cholesky (2 * i.n) (at i.first) (step_matrix i) l g
-        → (o.answer ≡ mark_of (F.answer_of g)) × ((r c : ℕ) → Cell (2 * i.n) (at i.first) r c → step_entries i o r c ≡ l r c)
+        → (o.answer ≡ mark_of (Ok g)) × ((r c : ℕ) → Cell (2 * i.n) (at i.first) r c → step_entries i o r c ≡ l r c)
     one_factor a u l g w =
         let t = made.one_factor (for_factor i) (a.planned u) l g w in
         rw (works a ∙ by_factor i u) (ap mark_of t.0, t.1)

@@ -3,6 +3,7 @@
 use mathlib.Core.Path.{◌≡◌, refl, ap}
 use mathlib.Core.List.{List, [], ◌∷◌}
 use lib.Ieee.{Float, nan, binary32, of_bits, add, sub, mul, div, lt}
+use Rattle.std.specs.Prelude.{Ok, Err}
 use Rattle.law.specs.Loop.{fold, over}
 use Rattle.law.specs.Every.{every, some}
 use Rattle.law.specs.Gather.{gather}
@@ -15,22 +16,23 @@ use Rattle.plane.specs.Plane.{zero32, one32}
 use Rattle.flat_runs.specs.Run.{dot_run}
 use Rattle.matrix_shape.specs.Formed.{slot_ok as columnOk, home_ok, row_ok as columnsOk, stored, mirrors_ok, starts_ok as offsetsOk, well_formed}
 use Rattle.matrix_shape.specs.Rows.{at}
+use Rattle.matrix_shape.specs.Shape.{shape}
 use Rattle.matrix_shape.specs.Given.{pattern_room, formed}
 use Rattle.plan_fits.specs.Fits.{back_ok, undo_ok, twins_ok, firsts_ok, grow_ok, starts_ok, plan_rules_ok, slot_ok, row_ok, inside_ok, fits_ok}
 use Rattle.plan_fits.specs.Given.{plan_room, factor_length}
 use Rattle.plan_fits.specs.Cells.{look}
+use Rattle.plan_fits.specs.Layout.{layout}
 use Rattle.factor_load.specs.Load.{beside_of, corner_of, slot_into, slots_into, row_into, load_of}
 use Rattle.factor_load.specs.Permuted.{permuted}
 use Rattle.factor_row.specs.Row.{later, reduced_of, entry_of, entry_step, left_of, square_step, pivot_of}
+use Rattle.factor_make.specs.Factored as factored
 use Rattle.factor_make.specs.Factor.{close_of, row_of, row_step, factor_of}
 use Rattle.factor_make.specs.Matrix.{matrix_of}
 use Rattle.factor_make.specs.Entry.{Finished, Ended}
 use Rattle.factor_passes.specs.Passes.{row_sum, forward_by, forward_step, forward_of, taken_of, back_step, backward_of}
 use Rattle.factor_substitution.specs.Solve.{permuted as parted, placed_of, solve_of}
 use Rattle.factor_doors.specs.Factorizing as F
-use Rattle.factor_doors.specs.declared.Factored.TheVariants as factored
 use Rattle.factor_doors.specs.Solving as S
-use Rattle.factor_doors.specs.declared.Solved.TheVariants as solved
 use Rattle.gradient_doors.specs.Updating.{inverses_room}
 use Rattle.step_routes.specs.Dense.{plan_held, structural}
 use Rattle.step_solve.specs.Marking as M
@@ -67,20 +69,20 @@ ten = of_bits binary32 0x4120_0000
 -- ---- the factor of one particle's block; its list has NaN, and a ten past the factor
 
 alone : List Float → F.In
-alone blocks = F.given 1 (0 ∷ 1 ∷ []) (0 ∷ []) (0 ∷ []) blocks (0 ∷ []) (0 ∷ []) (0 ∷ 0 ∷ []) (0 ∷ 1 ∷ 3 ∷ []) (nan ∷ nan ∷ nan ∷ ten ∷ [])
+alone blocks = F.given (shape 1 (0 ∷ 1 ∷ []) (0 ∷ []) (0 ∷ [])) blocks (layout (0 ∷ []) (0 ∷ []) (0 ∷ 0 ∷ []) (0 ∷ 1 ∷ 3 ∷ [])) (nan ∷ nan ∷ nan ∷ ten ∷ [])
 
 -- of two particles the second comes first; the block above the diagonal, which has nines here, is not read
 pair_blocks : List Float
 pair_blocks = six ∷ five ∷ five ∷ ten ∷ two ∷ four ∷ seven ∷ five ∷ nine ∷ nine ∷ nine ∷ nine ∷ four ∷ two ∷ two ∷ ten ∷ []
 
 both : F.In
-both = F.given 2 (0 ∷ 2 ∷ 4 ∷ []) (0 ∷ 1 ∷ 0 ∷ 1 ∷ []) (0 ∷ 3 ∷ []) pair_blocks (1 ∷ 0 ∷ []) (1 ∷ 0 ∷ []) (0 ∷ 0 ∷ 0 ∷ 0 ∷ [])
-    (0 ∷ 1 ∷ 3 ∷ 6 ∷ 10 ∷ []) (nan ∷ nan ∷ nan ∷ nan ∷ nan ∷ nan ∷ nan ∷ nan ∷ nan ∷ nan ∷ ten ∷ [])
+both = F.given (shape 2 (0 ∷ 2 ∷ 4 ∷ []) (0 ∷ 1 ∷ 0 ∷ 1 ∷ []) (0 ∷ 3 ∷ [])) pair_blocks (layout (1 ∷ 0 ∷ []) (1 ∷ 0 ∷ []) (0 ∷ 0 ∷ 0 ∷ 0 ∷ [])
+    (0 ∷ 1 ∷ 3 ∷ 6 ∷ 10 ∷ [])) (nan ∷ nan ∷ nan ∷ nan ∷ nan ∷ nan ∷ nan ∷ nan ∷ nan ∷ nan ∷ ten ∷ [])
 
 record Factors : Type 0 where
-  done : outcome F.door (alone (four ∷ two ∷ two ∷ ten ∷ [])) ≡ F.left factored.Done (two ∷ one32 ∷ three ∷ ten ∷ [])
-  ended : outcome F.door (alone (one32 ∷ two ∷ two ∷ four ∷ [])) ≡ F.left (factored.Failed 1 zero32) (one32 ∷ two ∷ four ∷ ten ∷ [])
-  pair : outcome F.door both ≡ F.left factored.Done (two ∷ one32 ∷ three ∷ one32 ∷ two ∷ one32 ∷ two ∷ one32 ∷ one32 ∷ two ∷ ten ∷ [])
+  done : outcome F.door (alone (four ∷ two ∷ two ∷ ten ∷ [])) ≡ F.left (Ok (Ok tt)) (two ∷ one32 ∷ three ∷ ten ∷ [])
+  ended : outcome F.door (alone (one32 ∷ two ∷ two ∷ four ∷ [])) ≡ F.left (Ok (Err (factored.failed 1 zero32))) (one32 ∷ two ∷ four ∷ ten ∷ [])
+  pair : outcome F.door both ≡ F.left (Ok (Ok tt)) (two ∷ one32 ∷ three ∷ one32 ∷ two ∷ one32 ∷ two ∷ one32 ∷ one32 ∷ two ∷ ten ∷ [])
 
 factors : Factors
 unfolding alone both pair_blocks outcome F.refusals F.work F.state_of verdict enough F.values_room pattern_room plan_room factor_length formed well_formed
@@ -119,10 +121,10 @@ reversed =
 -- ---- the same of a step's matrix, 2n being at most max_dense_dofs
 
 stepped : M.In
-stepped = M.given 1 (0 ∷ 1 ∷ []) (0 ∷ []) (0 ∷ []) (four ∷ two ∷ two ∷ ten ∷ []) (0 ∷ []) (0 ∷ []) (0 ∷ 0 ∷ []) (0 ∷ 1 ∷ 3 ∷ []) 2
+stepped = M.given (shape 1 (0 ∷ 1 ∷ []) (0 ∷ []) (0 ∷ [])) (four ∷ two ∷ two ∷ ten ∷ []) (layout (0 ∷ []) (0 ∷ []) (0 ∷ 0 ∷ []) (0 ∷ 1 ∷ 3 ∷ [])) 2
     (nan ∷ nan ∷ nan ∷ ten ∷ []) (nan ∷ nan ∷ nan ∷ nan ∷ [])
 
-stepped_is : outcome M.door stepped ≡ M.left marked.Direct (two ∷ one32 ∷ three ∷ ten ∷ []) (nan ∷ nan ∷ nan ∷ nan ∷ [])
+stepped_is : outcome M.door stepped ≡ M.left (Ok marked.Direct) (two ∷ one32 ∷ three ∷ ten ∷ []) (nan ∷ nan ∷ nan ∷ nan ∷ [])
 unfolding stepped outcome M.refusals M.work plan_held structural when verdict enough F.work F.state_of inverses_room pattern_room plan_room factor_length
     formed well_formed offsetsOk columnsOk columnOk home_ok mirrors_ok stored fits_ok inside_ok row_ok slot_ok plan_rules_ok undo_ok back_ok firsts_ok twins_ok
     starts_ok grow_ok every some over fold matrix_of load_of row_into slots_into slot_into beside_of corner_of factor_of row_step row_of close_of pivot_of
@@ -140,20 +142,20 @@ step_finished =
 
 -- b = (6, 12)
 alone_solve : S.In
-alone_solve = S.given 1 (0 ∷ []) (0 ∷ []) (0 ∷ 0 ∷ []) (0 ∷ 1 ∷ 3 ∷ []) (two ∷ one32 ∷ three ∷ ten ∷ []) (six ∷ of_bits binary32 0x4140_0000 ∷ [])
+alone_solve = S.given 1 (layout (0 ∷ []) (0 ∷ []) (0 ∷ 0 ∷ []) (0 ∷ 1 ∷ 3 ∷ [])) (two ∷ one32 ∷ three ∷ ten ∷ []) (six ∷ of_bits binary32 0x4140_0000 ∷ [])
     (nan ∷ nan ∷ ten ∷ []) (nan ∷ nan ∷ ten ∷ [])
 
 -- b is (36, 49) at particle 0 and (22, 41) at particle 1
 both_solve : S.In
-both_solve = S.given 2 (1 ∷ 0 ∷ []) (1 ∷ 0 ∷ []) (0 ∷ 0 ∷ 0 ∷ 0 ∷ []) (0 ∷ 1 ∷ 3 ∷ 6 ∷ 10 ∷ [])
+both_solve = S.given 2 (layout (1 ∷ 0 ∷ []) (1 ∷ 0 ∷ []) (0 ∷ 0 ∷ 0 ∷ 0 ∷ []) (0 ∷ 1 ∷ 3 ∷ 6 ∷ 10 ∷ []))
     (two ∷ one32 ∷ three ∷ one32 ∷ two ∷ one32 ∷ two ∷ one32 ∷ one32 ∷ two ∷ ten ∷ [])
     (of_bits binary32 0x4210_0000 ∷ of_bits binary32 0x4244_0000 ∷ of_bits binary32 0x41b0_0000 ∷ of_bits binary32 0x4224_0000 ∷ [])
     (nan ∷ nan ∷ nan ∷ nan ∷ ten ∷ []) (nan ∷ nan ∷ nan ∷ nan ∷ ten ∷ [])
 
 record Solves : Type 0 where
-  alone_gives : outcome S.door alone_solve ≡ S.left solved.Done (one32 ∷ one32 ∷ ten ∷ []) (zero32 ∷ zero32 ∷ ten ∷ [])
+  alone_gives : outcome S.door alone_solve ≡ S.left (Ok tt) (one32 ∷ one32 ∷ ten ∷ []) (zero32 ∷ zero32 ∷ ten ∷ [])
   -- particle 0, in the second position, has (2, 3), and particle 1 has (1, 1)
-  both_give : outcome S.door both_solve ≡ S.left solved.Done (two ∷ three ∷ one32 ∷ one32 ∷ ten ∷ []) (zero32 ∷ zero32 ∷ zero32 ∷ zero32 ∷ ten ∷ [])
+  both_give : outcome S.door both_solve ≡ S.left (Ok tt) (two ∷ three ∷ one32 ∷ one32 ∷ ten ∷ []) (zero32 ∷ zero32 ∷ zero32 ∷ zero32 ∷ ten ∷ [])
 
 solves : Solves
 unfolding alone_solve both_solve outcome S.refusals S.work verdict enough S.values_room plan_room factor_length plan_rules_ok undo_ok back_ok firsts_ok twins_ok
@@ -162,7 +164,7 @@ solves = record { alone_gives = refl; both_give = refl }
 
 -- THE SUBSTITUTIONS' X of these
 substituted : (y : List Float) × ((z : List Float) × Leaves both_solve
-    (S.left solved.Done (two ∷ three ∷ one32 ∷ one32 ∷ ten ∷ []) (zero32 ∷ zero32 ∷ zero32 ∷ zero32 ∷ ten ∷ [])) y z)
+    (S.left (Ok tt) (two ∷ three ∷ one32 ∷ one32 ∷ ten ∷ []) (zero32 ∷ zero32 ∷ zero32 ∷ zero32 ∷ ten ∷ [])) y z)
 substituted =
     rw solves.both_give at (gives_substituted both_solve (outcome S.door both_solve) (some_outcome S.door both_solve)
     (ap (λ (o : S.Out). o.answer) solves.both_give))

@@ -1,6 +1,7 @@
 -- CHOLESKY'S FACTOR IN THE CALLER'S LIST. The call `factorize` was handed i and came to o: o.answer is what it answered,
 -- o.values the caller's list as it then stands. `at l k` is what stands at place k of the list l.
-use Rattle.std.specs.Prelude.{ℕ, ◌*◌, ◌≤◌, ◌≡◌, true, List, ◌⊎◌, length, drop, Float}
+use Rattle.std.specs.Prelude.{ℕ, ◌*◌, ◌≤◌, ◌≡◌, true, List, ◌⊎◌, length, drop, Float, Ok, Err}
+use Rattle.law.specs.declared.refusal.Refusal.{Refusal}
 use Rattle.law.specs.Limit.{particles, envelope}
 use Rattle.law.specs.Room.{enough}
 use Rattle.law.specs.Promise.{Promise}
@@ -10,10 +11,9 @@ use Rattle.plan_fits.specs.Fits.{fits_ok}
 use Rattle.plan_fits.specs.Given.{plan_room, factor_length}
 use Rattle.plan_fits.specs.Cells.{Cell, look}
 use Rattle.factor_load.specs.Permuted.{Matrix, permuted}
-use Rattle.factor_make.specs.declared.Factored as outcome
+use Rattle.factor_make.specs.Factored as outcome
 use Rattle.factor_make.specs.Entry.{Finished, Ended, Cholesky}
-use Rattle.factor_doors.specs.Factorizing.{In, Out, left, values_room, answer_of, door}
-use Rattle.factor_doors.specs.declared.Factored.TheVariants.{Refused, Done, Failed}
+use Rattle.factor_doors.specs.Factorizing.{In, Out, left, values_room, door}
 
 -- what the call tests, each refusal turned round
 pub record Accepted (i : In) : Type 0 where
@@ -41,11 +41,11 @@ entries_in i v = look (at i.first) (at i.row_start) v
 -- what a call leaves, whatever it answered
 pub record Leaves (i : In) (o : Out) : Type 0 where
   -- Done: CHOLESKY'S FACTOR, every row of it finished
-  pub done : o.answer ≡ Done → Finished (2 * i.n) (at i.first) (matrix_in i) (entries_in i o.values)
+  pub done : o.answer ≡ Ok (Ok tt) → Finished (2 * i.n) (at i.first) (matrix_in i) (entries_in i o.values)
   -- Failed: it ended at row r, the first whose pivot, d, isn't above zero
-  pub failed : (r : ℕ) (d : Float) → o.answer ≡ Failed r d → Ended (2 * i.n) (at i.first) (matrix_in i) (entries_in i o.values) r d
+  pub failed : (r : ℕ) (d : Float) → o.answer ≡ Ok (Err (outcome.failed r d)) → Ended (2 * i.n) (at i.first) (matrix_in i) (entries_in i o.values) r d
   -- Refused: the list as it was
-  pub refused : (k : ℕ) → o.answer ≡ Refused k → o.values ≡ i.values
+  pub refused : (k : Refusal) → o.answer ≡ Err k → o.values ≡ i.values
   -- and past the factor's length it always is
   pub rest : drop (factor_length i.n i.row_start) o.values ≡ drop (factor_length i.n i.row_start) i.values
   pub long : length o.values ≡ length i.values
@@ -56,7 +56,7 @@ LeavesCholesky = (i : In) (o : Out) → Promise door i o → Leaves i o
 
 -- it has answered and not refused
 abbrev pub Answered : Out → Type 0
-Answered o = (o.answer ≡ Done) ⊎ ((r : ℕ) × ((d : Float) × (o.answer ≡ Failed r d)))
+Answered o = (o.answer ≡ Ok (Ok tt)) ⊎ ((r : ℕ) × ((d : Float) × (o.answer ≡ Ok (Err (outcome.failed r d)))))
 
 -- it answers exactly where its tests pass
 abbrev pub AnsweredExactly : Type 0
@@ -66,11 +66,11 @@ AnsweredExactly = (i : In) (o : Out) → Promise door i o → (Accepted i → An
 abbrev pub OneFactor : Type 0
 OneFactor =
     (i : In) (o : Out) → Promise door i o → Accepted i → (l : Matrix) (h : outcome.Factored) → Cholesky (2 * i.n) (at i.first) (matrix_in i) l h
-    → (o.answer ≡ answer_of h) × ((r c : ℕ) → Cell (2 * i.n) (at i.first) r c → entries_in i o.values r c ≡ l r c)
+    → (o.answer ≡ Ok h) × ((r c : ℕ) → Cell (2 * i.n) (at i.first) r c → entries_in i o.values r c ≡ l r c)
 
 -- so the whole outcome is: a list v of the same length and rest whose entries are so is the one that was left
 abbrev pub OneList : Type 0
 OneList =
     (i : In) (o : Out) → Promise door i o → Accepted i → (v : List Float) (h : outcome.Factored) → length v ≡ length i.values
     → drop (factor_length i.n i.row_start) v ≡ drop (factor_length i.n i.row_start) i.values
-    → Cholesky (2 * i.n) (at i.first) (matrix_in i) (entries_in i v) h → o ≡ left (answer_of h) v
+    → Cholesky (2 * i.n) (at i.first) (matrix_in i) (entries_in i v) h → o ≡ left (Ok h) v

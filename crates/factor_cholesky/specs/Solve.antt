@@ -1,7 +1,8 @@
 -- THE SUBSTITUTIONS' X AT EACH PARTICLE. The call `solve` was handed i and came to o. The values are a factor L as they stand:
 -- its row r has the columns from first[r] on, and position k has the rows 2k and 2k + 1.
-use Rattle.std.specs.Prelude.{ℕ, ◌+◌, ◌*◌, ◌/◌, ◌%◌, ◌≤◌, ◌<◌, ◌≡◌, true, List, length, get_or, drop, Float}
+use Rattle.std.specs.Prelude.{ℕ, ◌+◌, ◌*◌, ◌/◌, ◌%◌, ◌≤◌, ◌<◌, ◌≡◌, true, List, length, get_or, drop, Float, Ok, Err}
 use Rattle.std.specs.Float.{nan}
+use Rattle.law.specs.declared.refusal.Refusal.{Refusal}
 use Rattle.law.specs.Limit.{particles, envelope}
 use Rattle.law.specs.Room.{enough}
 use Rattle.law.specs.Promise.{Promise}
@@ -15,7 +16,6 @@ use Rattle.factor_load.specs.Permuted.{Matrix}
 use Rattle.factor_passes.specs.Passes.{forward_by}
 use Rattle.factor_passes.specs.PassMeaning.{owed}
 use Rattle.factor_doors.specs.Solving.{In, Out, values_room, door}
-use Rattle.factor_doors.specs.declared.Solved.TheVariants.{Refused, Done}
 
 -- what the call tests, each refusal turned round
 pub record Accepted (i : In) : Type 0 where
@@ -55,13 +55,13 @@ pub record Leaves (i : In) (o : Out) (y z : List Float) : Type 0 where
 
 -- THE CALL GIVES THE SUBSTITUTIONS' X at each particle
 abbrev pub GivesSubstituted : Type 0
-GivesSubstituted = (i : In) (o : Out) → Promise door i o → o.answer ≡ Done → (y : List Float) × ((z : List Float) × Leaves i o y z)
+GivesSubstituted = (i : In) (o : Out) → Promise door i o → o.answer ≡ Ok tt → (y : List Float) × ((z : List Float) × Leaves i o y z)
 
 -- it answers exactly where its tests pass, and a refusal changes nothing
 abbrev pub AnsweredExactly : Type 0
 AnsweredExactly =
-    (i : In) (o : Out) → Promise door i o → (Accepted i → o.answer ≡ Done) × (o.answer ≡ Done → Accepted i)
-    × ((k : ℕ) → o.answer ≡ Refused k → (o.x ≡ i.x) × (o.scratch ≡ i.scratch))
+    (i : In) (o : Out) → Promise door i o → (Accepted i → o.answer ≡ Ok tt) × (o.answer ≡ Ok tt → Accepted i)
+    × ((k : Refusal) → o.answer ≡ Err k → (o.x ≡ i.x) × (o.scratch ≡ i.scratch))
 
 -- AND NOTHING ELSE IS SUBSTITUTED: whatever lists y and z are so, wherever they come from, z's numbers are the particles'
 abbrev pub OneSolution : Type 0

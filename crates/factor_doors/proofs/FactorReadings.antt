@@ -21,7 +21,11 @@ use Rattle.factor_load.specs.Load.{beside_of, corner_of, slot_into, slots_into, 
 use Rattle.factor_row.specs.Row.{later, reduced_of, entry_of, entry_step, left_of, square_step, pivot_of}
 use Rattle.factor_make.specs.Factor.{close_of, row_of, row_step, factor_of}
 use Rattle.factor_make.specs.Matrix.{matrix_of}
-use Rattle.factor_doors.specs.declared.Factored.TheVariants.{Refused, Done, Failed}
+use Rattle.std.specs.Prelude.{Ok, Err}
+use Rattle.law.specs.declared.refusal.Refusal.TheVariants.{ShortBuffer, BadPattern, BadPlan}
+use Rattle.matrix_shape.specs.Shape.{shape}
+use Rattle.plan_fits.specs.Layout.{layout}
+use Rattle.factor_make.specs.Factored.{failed}
 use Rattle.factor_doors.specs.Factorizing.{Out, given, left, values_room, refusals, state_of, work, door}
 
 abbrev two : Float
@@ -38,15 +42,15 @@ ten = of_bits binary32 0x4120_0000
 
 -- one particle, its column and first columns given
 handed : List ℕ → List ℕ → List Float → Out
-handed cols first blocks = outcome door (given 1 (0 ∷ 1 ∷ []) cols (0 ∷ []) blocks (0 ∷ []) (0 ∷ []) first (0 ∷ 1 ∷ 3 ∷ []) (nan ∷ nan ∷ nan ∷ ten ∷ []))
+handed cols first blocks = outcome door (given (shape 1 (0 ∷ 1 ∷ []) cols (0 ∷ [])) blocks (layout (0 ∷ []) (0 ∷ []) first (0 ∷ 1 ∷ 3 ∷ [])) (nan ∷ nan ∷ nan ∷ ten ∷ []))
 
 record Readings : Type 0 where
-  done : handed (0 ∷ []) (0 ∷ 0 ∷ []) (four ∷ two ∷ two ∷ ten ∷ []) ≡ left Done (two ∷ one32 ∷ three ∷ ten ∷ [])
-  ended : handed (0 ∷ []) (0 ∷ 0 ∷ []) (one32 ∷ two ∷ two ∷ four ∷ []) ≡ left (Failed 1 zero32) (one32 ∷ two ∷ four ∷ ten ∷ [])
+  done : handed (0 ∷ []) (0 ∷ 0 ∷ []) (four ∷ two ∷ two ∷ ten ∷ []) ≡ left (Ok (Ok tt)) (two ∷ one32 ∷ three ∷ ten ∷ [])
+  ended : handed (0 ∷ []) (0 ∷ 0 ∷ []) (one32 ∷ two ∷ two ∷ four ∷ []) ≡ left (Ok (Err (failed 1 zero32))) (one32 ∷ two ∷ four ∷ ten ∷ [])
   -- three floats are no block; column 1 is none of one particle's; first columns that differ are none of a plan's, and 5 comes before 6
-  short : handed (0 ∷ []) (0 ∷ 0 ∷ []) (four ∷ two ∷ two ∷ []) ≡ left (Refused 3) (nan ∷ nan ∷ nan ∷ ten ∷ [])
-  unfit : handed (0 ∷ []) (0 ∷ 1 ∷ []) (four ∷ two ∷ two ∷ ten ∷ []) ≡ left (Refused 6) (nan ∷ nan ∷ nan ∷ ten ∷ [])
-  both : handed (1 ∷ []) (0 ∷ 1 ∷ []) (four ∷ two ∷ two ∷ ten ∷ []) ≡ left (Refused 5) (nan ∷ nan ∷ nan ∷ ten ∷ [])
+  short : handed (0 ∷ []) (0 ∷ 0 ∷ []) (four ∷ two ∷ two ∷ []) ≡ left (Err ShortBuffer) (nan ∷ nan ∷ nan ∷ ten ∷ [])
+  unfit : handed (0 ∷ []) (0 ∷ 1 ∷ []) (four ∷ two ∷ two ∷ ten ∷ []) ≡ left (Err BadPlan) (nan ∷ nan ∷ nan ∷ ten ∷ [])
+  both : handed (1 ∷ []) (0 ∷ 1 ∷ []) (four ∷ two ∷ two ∷ ten ∷ []) ≡ left (Err BadPattern) (nan ∷ nan ∷ nan ∷ ten ∷ [])
 
 readings : Readings
 unfolding handed outcome refusals work state_of verdict enough values_room pattern_room plan_room factor_length formed well_formed offsetsOk columnsOk

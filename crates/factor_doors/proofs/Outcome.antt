@@ -9,8 +9,8 @@ use Rattle.factor_doors.specs.contracts.solve as solve
 
 pub one_factorize : OneOutcome factorize.ended (λ M 𝓤. factorize.spec)
 unfolding factorizing.work
-one_factorize = plainly factorize.ended _ (λ κs a p. of_door factorizing.door _ _ (λ o. (o.answer, past 9 (o.values, tt))) refl (λ k. refl) (λ w. refl))
+one_factorize = plainly factorize.ended _ (λ κs a p. of_door factorizing.door _ _ (λ o. (o.answer, past 3 (o.values, tt))) refl (λ k. refl) (λ w. refl))
 
 pub one_solve : OneOutcome solve.ended (λ M 𝓤. solve.spec)
 unfolding solving.work
-one_solve = plainly solve.ended _ (λ κs a p. of_door solving.door _ _ (λ o. (o.answer, past 7 (o.x, (o.scratch, tt)))) refl (λ k. refl) (λ w. refl))
+one_solve = plainly solve.ended _ (λ κs a p. of_door solving.door _ _ (λ o. (o.answer, past 4 (o.x, (o.scratch, tt)))) refl (λ k. refl) (λ w. refl))

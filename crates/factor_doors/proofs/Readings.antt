@@ -15,7 +15,9 @@ use Rattle.plan_fits.specs.Fits.{back_ok, undo_ok, twins_ok, firsts_ok, grow_ok,
 use Rattle.plan_fits.specs.Given.{plan_room, factor_length}
 use Rattle.factor_passes.specs.Passes.{row_sum, forward_by, forward_step, forward_of, taken_of, back_step, backward_of}
 use Rattle.factor_substitution.specs.Solve.{permuted, placed_of, solve_of}
-use Rattle.factor_doors.specs.declared.Solved.TheVariants.{Refused, Done}
+use Rattle.std.specs.Prelude.{Ok, Err}
+use Rattle.law.specs.declared.refusal.Refusal.TheVariants.{TooManyParticles, ShortBuffer, BadPlan}
+use Rattle.plan_fits.specs.Layout.{layout}
 use Rattle.factor_doors.specs.Solving.{In, Out, given, left, values_room, refusals, work, door}
 
 abbrev two : Float
@@ -32,17 +34,17 @@ twelve = of_bits binary32 0x4140_0000
 
 -- one particle's plan, the factor 2, 1, 3 and b = (6, 12), with x and scratch of a place more than is needed; the inverse and the values are given
 handed : List ℕ → List Float → In
-handed inverse values = given 1 (0 ∷ []) inverse (0 ∷ 0 ∷ []) (0 ∷ 1 ∷ 3 ∷ []) values (six ∷ twelve ∷ []) (nan ∷ nan ∷ six ∷ []) (nan ∷ nan ∷ nan ∷ [])
+handed inverse values = given 1 (layout (0 ∷ []) inverse (0 ∷ 0 ∷ []) (0 ∷ 1 ∷ 3 ∷ [])) values (six ∷ twelve ∷ []) (nan ∷ nan ∷ six ∷ []) (nan ∷ nan ∷ nan ∷ [])
 
 record Readings : Type 0 where
-  solved : outcome door (handed (0 ∷ []) (two ∷ one32 ∷ three ∷ [])) ≡ left Done (one32 ∷ one32 ∷ six ∷ []) (zero32 ∷ zero32 ∷ nan ∷ [])
+  solved : outcome door (handed (0 ∷ []) (two ∷ one32 ∷ three ∷ [])) ≡ left (Ok tt) (one32 ∷ one32 ∷ six ∷ []) (zero32 ∷ zero32 ∷ nan ∷ [])
   -- a factor one short, and an inverse that leads past the particles
-  short : outcome door (handed (0 ∷ []) (two ∷ one32 ∷ [])) ≡ left (Refused 3) (nan ∷ nan ∷ six ∷ []) (nan ∷ nan ∷ nan ∷ [])
-  astray : outcome door (handed (1 ∷ []) (two ∷ one32 ∷ three ∷ [])) ≡ left (Refused 6) (nan ∷ nan ∷ six ∷ []) (nan ∷ nan ∷ nan ∷ [])
+  short : outcome door (handed (0 ∷ []) (two ∷ one32 ∷ [])) ≡ left (Err ShortBuffer) (nan ∷ nan ∷ six ∷ []) (nan ∷ nan ∷ nan ∷ [])
+  astray : outcome door (handed (1 ∷ []) (two ∷ one32 ∷ three ∷ [])) ≡ left (Err BadPlan) (nan ∷ nan ∷ six ∷ []) (nan ∷ nan ∷ nan ∷ [])
   -- 1,025 particles, whatever the lists
-  many : outcome door (given 1025 [] [] [] [] [] [] [] []) ≡ left (Refused 1) [] []
+  many : outcome door (given 1025 (layout [] [] [] []) [] [] [] []) ≡ left (Err TooManyParticles) [] []
   -- no particles
-  none : outcome door (given 0 [] [] [] (0 ∷ []) [] [] [] []) ≡ left Done [] []
+  none : outcome door (given 0 (layout [] [] [] (0 ∷ [])) [] [] [] []) ≡ left (Ok tt) [] []
 
 readings : Readings
 unfolding handed outcome refusals work verdict enough values_room plan_room factor_length plan_rules_ok undo_ok back_ok firsts_ok twins_ok starts_ok grow_ok

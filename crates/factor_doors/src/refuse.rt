@@ -1,133 +1,86 @@
-// The numbers that calls are refused by. Tests run in phases, so that none reads past a list's end.
+// What calls are refused by. Tests run in phases, so that none reads past a list's end; each list is a call's own, in the order of the numbers.
 ghost use Rattle.std.specs.Prelude.{◌≡◌, true, ◌*◌, ◌≤◌, ◌<◌, leb, length};
 ghost use Rattle.law.specs.Limit.{particles, envelope};
 ghost use Rattle.law.specs.Room.{enough};
 ghost use Rattle.law.specs.Refusal.{verdict};
-ghost use Rattle.plan_fits.specs.Given.{factor_length};
+ghost use Rattle.matrix_shape.specs.Shape.{lists};
+ghost use Rattle.plan_fits.specs.Layout.{plan_lists, length_of};
 ghost use Rattle.factor_doors.specs.Factorizing as factorizing;
 ghost use Rattle.factor_doors.specs.Solving as solving;
 
+use law::refusal::{Refusal, ensure};
+use matrix_shape::pattern::Pattern;
+use matrix_test::given::pattern_formed;
+use plan_fits::plan::Plan;
+
 // Whether the factor is within the limit.
-fn short(n: usize, row_start: &[u32]) -> bool
-    requires { (n ≤ particles) × (2 * n < length row_start.now) }
-    ensures { result ≡ leb (factor_length n row_start.now) envelope }
+fn short(n: usize, plan: &Plan) -> bool
+    requires { (n ≤ particles) × (2 * n < length plan.now.row_start.now) }
+    ensures { result ≡ leb (length_of n (plan_lists plan.now)) envelope }
 {
-    plan_fits::given::factor_len(n, row_start) <= law::ENVELOPE
+    plan.factor_len(n) <= law::ENVELOPE
 }
 
-fn factor_room(
-    n: usize,
-    row_offsets: &[u32],
-    blocks: &[f32],
-    row_start: &[u32],
-    values: &[f32],
-) -> bool
-    requires n_in_bounds { n < length row_offsets.now }
-    requires n_le_particles { (n ≤ particles) × (2 * n < length row_start.now) }
+#[tactic(auto, unfolding(law::specs::Room::enough, matrix_shape::specs::Given::blocks_room, crate::specs::Factorizing::values_room))]
+fn factor_room(pattern: &Pattern, blocks: &[f32], plan: &Plan, values: &[f32]) -> bool
+    requires n_in_bounds { pattern.now.n < length pattern.now.row_offsets.now }
+    requires n_le_particles { (pattern.now.n ≤ particles) × (2 * pattern.now.n < length plan.now.row_start.now) }
     ensures { result ≡ enough true
-        (factorizing.values_room n row_offsets.now blocks.now row_start.now values.now) }
+        (factorizing.values_room pattern.now.n pattern.now.row_offsets.now blocks.now plan.now.row_start.now values.now) }
 {
-    (4 * law::wide(row_offsets[n]) <= blocks.len())
-        & (plan_fits::given::factor_len(n, row_start) <= values.len())
+    pattern.blocks_fit(blocks) & (plan.factor_len(pattern.n) <= values.len())
 }
 
+#[tactic(auto, unfolding(law::specs::Refusal::verdict, crate::specs::Factorizing::refusals), using(matrix_shape::specs::Given::held, matrix_shape::specs::Given::pattern, plan_fits::specs::Given::laid))]
 pub fn factorizing(
-    n: usize,
-    row_offsets: &[u32],
-    cols: &[u32],
-    diagonal: &[u32],
+    pattern: &Pattern,
     blocks: &[f32],
-    perm: &[u32],
-    inv_perm: &[u32],
-    first: &[u32],
-    row_start: &[u32],
+    plan: &Plan,
     values: &[f32],
-) -> u8
+) -> Result<(), Refusal>
     ensures { result ≡ verdict
-        (factorizing.refusals (factorizing.given n row_offsets.now cols.now diagonal.now blocks.now
-        perm.now inv_perm.now first.now row_start.now values.now)) }
+        (factorizing.refusals (factorizing.given (lists pattern.now) blocks.now (plan_lists plan.now) values.now)) }
 {
-    if law::PARTICLES < n {
-        return law::refusal::TOO_MANY_PARTICLES;
-    }
-    if !matrix_test::given::pattern_room(n, row_offsets, cols, diagonal) {
-        return law::refusal::SHORT_BUFFER;
-    }
-    if !plan_fits::given::plan_room(n, perm, inv_perm, first, row_start) {
-        return law::refusal::SHORT_BUFFER;
-    }
-    if !factor_room(n, row_offsets, blocks, row_start, values) {
-        return law::refusal::SHORT_BUFFER;
-    }
-    if !matrix_test::given::pattern_formed(n, row_offsets, cols, diagonal) {
-        return law::refusal::BAD_PATTERN;
-    }
-    if !plan_inside::inside::fits(
-        n,
-        row_offsets,
-        cols,
-        diagonal,
-        perm,
-        inv_perm,
-        first,
-        row_start,
-    ) {
-        return law::refusal::BAD_PLAN;
-    }
-    if !short(n, row_start) {
-        return law::refusal::LONG_ENVELOPE;
-    }
-    0
+    ensure(pattern.n <= law::PARTICLES, Refusal::TooManyParticles)?;
+    ensure(pattern.has_room(), Refusal::ShortBuffer)?;
+    ensure(plan.has_room(pattern.n), Refusal::ShortBuffer)?;
+    ensure(
+        factor_room(pattern, blocks, plan, values),
+        Refusal::ShortBuffer,
+    )?;
+    ensure(pattern_formed(pattern), Refusal::BadPattern)?;
+    ensure(plan_inside::inside::fits(pattern, plan), Refusal::BadPlan)?;
+    ensure(short(pattern.n, plan), Refusal::LongEnvelope)
 }
 
-fn solve_room(
-    n: usize,
-    row_start: &[u32],
-    values: &[f32],
-    b: &[f32],
-    x: &[f32],
-    scratch: &[f32],
-) -> bool
-    requires { (n ≤ particles) × (2 * n < length row_start.now) }
+#[tactic(auto, unfolding(law::specs::Room::enough, crate::specs::Solving::values_room))]
+fn solve_room(n: usize, plan: &Plan, values: &[f32], b: &[f32], x: &[f32], scratch: &[f32]) -> bool
+    requires { (n ≤ particles) × (2 * n < length plan.now.row_start.now) }
     ensures { result ≡ enough true
-        (solving.values_room n row_start.now values.now b.now x.now scratch.now) }
+        (solving.values_room n plan.now.row_start.now values.now b.now x.now scratch.now) }
 {
     let m = 2 * n;
-    (plan_fits::given::factor_len(n, row_start) <= values.len())
-        & (m <= b.len())
-        & (m <= x.len())
-        & (m <= scratch.len())
+    (plan.factor_len(n) <= values.len()) & (m <= b.len()) & (m <= x.len()) & (m <= scratch.len())
 }
 
+#[tactic(auto, unfolding(law::specs::Refusal::verdict, crate::specs::Solving::refusals), using(plan_fits::specs::Given::laid))]
 pub fn solving(
     n: usize,
-    perm: &[u32],
-    inv_perm: &[u32],
-    first: &[u32],
-    row_start: &[u32],
+    plan: &Plan,
     values: &[f32],
     b: &[f32],
     x: &[f32],
     scratch: &[f32],
-) -> u8
+) -> Result<(), Refusal>
     ensures { result ≡ verdict
-        (solving.refusals (solving.given n perm.now inv_perm.now first.now row_start.now
-        values.now b.now x.now scratch.now)) }
+        (solving.refusals (solving.given n (plan_lists plan.now) values.now b.now x.now scratch.now)) }
 {
-    if law::PARTICLES < n {
-        return law::refusal::TOO_MANY_PARTICLES;
-    }
-    if !plan_fits::given::plan_room(n, perm, inv_perm, first, row_start) {
-        return law::refusal::SHORT_BUFFER;
-    }
-    if !solve_room(n, row_start, values, b, x, scratch) {
-        return law::refusal::SHORT_BUFFER;
-    }
-    if !plan_test::plan::plan_ok(n, perm, inv_perm, first, row_start) {
-        return law::refusal::BAD_PLAN;
-    }
-    if !short(n, row_start) {
-        return law::refusal::LONG_ENVELOPE;
-    }
-    0
+    ensure(n <= law::PARTICLES, Refusal::TooManyParticles)?;
+    ensure(plan.has_room(n), Refusal::ShortBuffer)?;
+    ensure(
+        solve_room(n, plan, values, b, x, scratch),
+        Refusal::ShortBuffer,
+    )?;
+    ensure(plan_test::plan::plan_ok(n, plan), Refusal::BadPlan)?;
+    ensure(short(n, plan), Refusal::LongEnvelope)
 }

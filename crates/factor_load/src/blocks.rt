@@ -1,20 +1,23 @@
 // The matrix's blocks into the envelope, a block to two rows.
-ghost use Rattle.std.specs.Prelude.{◌≡◌, ℕ, ◌+◌, ◌*◌, ◌≤◌, ◌<◌, length, replicate};
-ghost use Rattle.plane.specs.Plane.{zero32};
+ghost use Rattle.std.specs.Prelude.{◌≡◌, ℕ, ◌*◌, ◌≤◌, ◌<◌, length};
 ghost use Rattle.matrix_shape.specs.Rows.{at};
 ghost use Rattle.factor_load.specs.Load.{beside_of, corner_of, slot_into, slots_into, row_into, Spot, Slot, Loads};
 
+use matrix_shape::pattern::Pattern;
+use plan_fits::plan::Plan;
 use plane::Block;
 
-pub fn zero(values: &mut [f32])
-    ensures { values.new ≡ replicate (length values.old) zero32 }
-{
-    for k in 0..values.len() {
-        values[k] = 0.0;
-    }
+// The two rows of position i: both start at column `low`, at the places `upper` and `lower`.
+#[derive(Clone, Copy)]
+struct Rows {
+    i: usize,
+    low: usize,
+    upper: usize,
+    lower: usize,
 }
 
 // A block left of the diagonal.
+#[tactic(auto, unfolding(crate::specs::Load::beside_of))]
 fn beside(block: Block, up: usize, down: usize, values: &mut [f32])
     requires { Spot up down (length values.old) }
     ensures { values.new ≡ beside_of block up down values.old }
@@ -25,7 +28,8 @@ fn beside(block: Block, up: usize, down: usize, values: &mut [f32])
     values[down + 1] = block[1][1];
 }
 
-// A block on the diagonal, without its upper right entry.
+// A block on the diagonal, without its upper right entry. One function with `beside` would be no plainer: it would ask at one write of the four.
+#[tactic(auto, unfolding(crate::specs::Load::corner_of))]
 fn corner(block: Block, up: usize, down: usize, values: &mut [f32])
     requires { Spot up down (length values.old) }
     ensures { values.new ≡ corner_of block up down values.old }
@@ -35,82 +39,70 @@ fn corner(block: Block, up: usize, down: usize, values: &mut [f32])
     values[down + 1] = block[1][1];
 }
 
-// Slot k of a row at position i, whose two rows start at column `low`.
-fn slot(
-    cols: &[u32],
-    blocks: &[f32],
-    inv_perm: &[u32],
-    i: usize,
-    low: usize,
-    upper: usize,
-    lower: usize,
-    k: usize,
-    values: &mut [f32],
-)
-    requires { Slot cols.now blocks.now inv_perm.now i low upper lower (length values.old) k }
-    ensures { values.new ≡ slot_into (at cols.now) blocks.now (at inv_perm.now) i low upper lower k
+// Slot k of a block row.
+#[tactic(auto, unfolding(crate::specs::Load::slot_into))]
+fn slot(cols: &[u32], blocks: &[f32], inv_perm: &[u32], rows: Rows, k: usize, values: &mut [f32])
+    requires { Slot cols.now blocks.now inv_perm.now rows.i rows.low rows.upper rows.lower (length values.old) k }
+    ensures { values.new ≡ slot_into (at cols.now) blocks.now (at inv_perm.now) rows.i rows.low rows.upper rows.lower k
         values.old }
 {
     let c = law::wide(cols[k]);
     let j = law::wide(inv_perm[c]);
-    if i < j {
+    if rows.i < j {
         return;
     }
-    let off = 2 * j - low;
+    let off = 2 * j - rows.low;
     let block = vectors::inner::block_at(blocks, k);
-    if j < i {
-        beside(block, upper + off, lower + off, values);
+    if j < rows.i {
+        beside(block, rows.upper + off, rows.lower + off, values);
         return;
     }
-    corner(block, upper + off, lower + off, values);
+    corner(block, rows.upper + off, rows.lower + off, values);
 }
 
-// The slots a..b of a row at position i.
+// The slots a..b of a block row, by number: it picks both the column and the block.
+#[tactic(auto, unfolding(crate::specs::Load::slots_into), using(law::proofs::Loop::over_none, law::proofs::Loop::over_turn, law::proofs::Loop::over_done))]
 fn slots(
     cols: &[u32],
     blocks: &[f32],
     inv_perm: &[u32],
     a: usize,
     b: usize,
-    i: usize,
-    low: usize,
-    upper: usize,
-    lower: usize,
+    rows: Rows,
     values: &mut [f32],
 )
     requires a_le_b { a ≤ b }
-    requires by_index { (k : ℕ) → a ≤ k → k < b → Slot cols.now blocks.now inv_perm.now i low upper lower (length values.old) k }
-    ensures { values.new ≡ slots_into (at cols.now) blocks.now (at inv_perm.now) i low upper lower a b
+    requires by_index { (k : ℕ) → a ≤ k → k < b
+        → Slot cols.now blocks.now inv_perm.now rows.i rows.low rows.upper rows.lower (length values.old) k }
+    ensures { values.new ≡ slots_into (at cols.now) blocks.now (at inv_perm.now) rows.i rows.low rows.upper rows.lower a b
         values.old }
 {
     for k in a..b {
-        slot(cols, blocks, inv_perm, i, low, upper, lower, k, values);
+        slot(cols, blocks, inv_perm, rows, k, values);
     }
 }
 
 // Block row r.
-pub fn row(
-    n: usize,
-    row_offsets: &[u32],
-    cols: &[u32],
-    blocks: &[f32],
-    inv_perm: &[u32],
-    first: &[u32],
-    row_start: &[u32],
-    r: usize,
-    values: &mut [f32],
-)
-    requires loads { Loads n row_offsets.now cols.now blocks.now inv_perm.now first.now row_start.now }
-    requires r_lt_n { (r < n) × (length values.old ≡ at row_start.now (2 * n)) }
-    ensures { values.new ≡ row_into (at row_offsets.now) (at cols.now) blocks.now
-        (at inv_perm.now) (at first.now) (at row_start.now) r values.old }
+#[tactic(auto, unfolding(crate::specs::Load::row_into), using(crate::specs::Load::slot_of))]
+pub fn row(pattern: &Pattern, blocks: &[f32], plan: &Plan, r: usize, values: &mut [f32])
+    requires loads { Loads pattern.now.n pattern.now.row_offsets.now pattern.now.cols.now blocks.now
+        plan.now.inv_perm.now plan.now.first.now plan.now.row_start.now }
+    requires r_lt_n { (r < pattern.now.n) × (length values.old ≡ at plan.now.row_start.now (2 * pattern.now.n)) }
+    ensures { values.new ≡ row_into (at pattern.now.row_offsets.now) (at pattern.now.cols.now) blocks.now
+        (at plan.now.inv_perm.now) (at plan.now.first.now) (at plan.now.row_start.now) r values.old }
 {
-    let a = law::wide(row_offsets[r]);
-    let b = law::wide(row_offsets[r + 1]);
-    let i = law::wide(inv_perm[r]);
+    let a = law::wide(pattern.row_offsets[r]);
+    let b = law::wide(pattern.row_offsets[r + 1]);
+    let i = law::wide(plan.inv_perm[r]);
     let row = 2 * i;
-    let low = law::wide(first[row]);
-    let upper = law::wide(row_start[row]);
-    let lower = law::wide(row_start[row + 1]);
-    slots(cols, blocks, inv_perm, a, b, i, low, upper, lower, values);
+    let low = law::wide(plan.first[row]);
+    let upper = law::wide(plan.row_start[row]);
+    let lower = law::wide(plan.row_start[row + 1]);
+    let rows = Rows {
+        i,
+        low,
+        upper,
+        lower,
+    };
+    slots(pattern.cols, blocks, plan.inv_perm, a, b, rows, values);
 }

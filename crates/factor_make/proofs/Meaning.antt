@@ -18,8 +18,8 @@ use Rattle.plan_fits.specs.Cells.{Skyline, Cell, place, corner, look}
 use Rattle.factor_load.specs.Permuted.{Matrix}
 use Rattle.factor_load.proofs.Look.{look_same, look_other}
 use Rattle.factor_row.specs.Row.{later, later_left, later_right, reduced_of, entry_of, entry_step, left_of, square_step, pivot_of}
-use Rattle.factor_make.specs.declared.Factored.{Factored}
-use Rattle.factor_make.specs.declared.Factored.TheVariants.{Done, Failed}
+use Rattle.std.specs.Prelude.{Ok, Err}
+use Rattle.factor_make.specs.Factored.{Factored}
 use Rattle.factor_make.specs.Factor.{State, state, close_of, row_of, row_step, factor_of}
 use Rattle.factor_make.specs.Entry.{product_step, entry, pivot_step, pivot, Finished, Ended, Cholesky}
 
@@ -80,8 +80,9 @@ cholesky_same m f a b l low same = go
     }
 
     go : (h : Factored) → Cholesky m f a l h → Cholesky m f b l h
-    go Done w = rows m (le_refl m) w
-    go (Failed r d) w =
+    go (Ok _) w = rows m (le_refl m) w
+    go (Err e) w =
+        let r = e.row in
         let corner = at r r w.row (low r w.row) (le_refl r) in
         record {
           row = w.row;
@@ -102,8 +103,9 @@ cholesky_kept m f a l t low same = go
     at i j h g u = same i j (record { row = h; left = g; upto = u })
 
     go : (h : Factored) → Cholesky m f a l h → Cholesky m f a t h
-    go Done w = finished_same f a l t m low at w
-    go (Failed r d) w =
+    go (Ok _) w = finished_same f a l t m low at w
+    go (Err e) w =
+        let r = e.row in
         let h = w.row in
         let row : (k : ℕ) → f r ≤ k → k < r → l r k ≡ t r k = λ k p q. at r k h p (omega arith) in
         record {
@@ -161,13 +163,13 @@ row_long f s i v =
 
 step_long : (f s : ℕ → ℕ) (i : ℕ) (x : State) (h : Factored) → x.how ≡ h → length (row_step f s i x).values ≡ length x.values
 unfolding row_step
-step_long f s i x Done e = rw e (row_long f s i x.values)
-step_long f s i x (Failed r d) e = rw e
+step_long f s i x (Ok _) e = rw e (row_long f s i x.values)
+step_long f s i x (Err y) e = rw e
 
 pub factor_long : (f s : ℕ → ℕ) (m : ℕ) (v : List Float) → length (factor_of f s m v).values ≡ length v
 unfolding factor_of
 factor_long f s m v =
-    over_keeps (λ x. length x.values ≡ length v) (row_step f s) 0 m (state Done v) (λ i x h g e. step_long f s i x x.how refl ∙ e) refl
+    over_keeps (λ x. length x.values ≡ length v) (row_step f s) 0 m (state (Ok tt) v) (λ i x h g e. step_long f s i x x.how refl ∙ e) refl
 
 -- ---- the rows
 
@@ -219,8 +221,8 @@ module _ {m : ℕ} {f s : ℕ → ℕ} (w : Skyline m f s) (v : List Float) (who
     raw : (a b : ℕ) → Cell m f a b → k ≤ a → look f s t a b ≡ A a b
 
   abbrev Reached : ℕ → Factored → List Float → Type 0
-  Reached k Done t = Run k t
-  Reached k (Failed r d) t = Ended m f A (look f s t) r d
+  Reached k (Ok _) t = Run k t
+  Reached k (Err e) t = Ended m f A (look f s t) e.row e.pivot
 
   module _ (i : ℕ) (below : i < m) (z : List Float) (run : Run i z) where
     left : Left i z i (left_of f s (f i) (s i) i z)
@@ -281,18 +283,18 @@ module _ {m : ℕ} {f s : ℕ → ℕ} (w : Skyline m f s) (v : List Float) (who
 
   step : (i : ℕ) (x : State) (h : Factored) → x.how ≡ h → i < m → Reached i h x.values → Reached (i + 1) (row_step f s i x).how (row_step f s i x).values
   unfolding row_step row_of
-  step i x Done e below run =
+  step i x (Ok _) e below run =
       let z = x.values in
       let t = left_of f s (f i) (s i) i z in
       let c = left i below z run in
       let d = pivot_of t (s i) (place f s i i) in
       rw e (closed i below z run t c d (pivot_is f s A t i (c.raw i (w.low i below) (le_refl i) (le_refl i))) (lt zero32 d) refl)
-  step i x (Failed r d) e below run = rw e run
+  step i x (Err y) e below run = rw e run
 
   reached : Reached m (factor_of f s m v).how (factor_of f s m v).values
   unfolding factor_of
   reached =
-      over_holds (λ k x. Reached k x.how x.values) (row_step f s) 0 m (state Done v) zero-le
+      over_holds (λ k x. Reached k x.how x.values) (row_step f s) 0 m (state (Ok tt) v) zero-le
       (record {
         long = whole;
         finished = record {
@@ -309,5 +311,5 @@ module _ {m : ℕ} {f s : ℕ → ℕ} (w : Skyline m f s) (v : List Float) (who
   cholesky = told (factor_of f s m v) (factor_of f s m v).how refl reached
     where
       told : (x : State) (h : Factored) → x.how ≡ h → Reached m h x.values → Cholesky m f A (look f s x.values) x.how
-      told x Done e q = rw e q.finished
-      told x (Failed r d) e q = rw e q
+      told x (Ok _) e q = rw e q.finished
+      told x (Err y) e q = rw e q

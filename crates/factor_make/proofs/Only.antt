@@ -13,8 +13,8 @@ use Rattle.plane.specs.Plane.{zero32}
 use Rattle.root.specs.Sqrt.{sqrt_of}
 use Rattle.plan_fits.specs.Cells.{Cell}
 use Rattle.factor_load.specs.Permuted.{Matrix}
-use Rattle.factor_make.specs.declared.Factored.{Factored}
-use Rattle.factor_make.specs.declared.Factored.TheVariants.{Done, Failed}
+use Rattle.std.specs.Prelude.{Ok, Err}
+use Rattle.factor_make.specs.Factored.{Factored, failed}
 use Rattle.factor_make.specs.Entry.{entry, pivot, Finished, Ended, Cholesky}
 use Rattle.factor_make.proofs.Meaning.{entry_same, pivot_same}
 
@@ -65,11 +65,11 @@ module _ (m : ℕ) (f : ℕ → ℕ) (low : (i : ℕ) → i < m → f i ≤ i) (
         true≢false (sym (x.above r h) ∙ ap (lt zero32) same ∙ y.fails)
 
     -- both have ended at one row
-    ended : (r : ℕ) (d e : Float) → Ended m f a l r d → Ended m f a t r e → (Failed r d ≡ Failed r e) × ((i j : ℕ) → Cell m f i j → l i j ≡ t i j)
+    ended : (r : ℕ) (d e : Float) → Ended m f a l r d → Ended m f a t r e → (failed r d ≡ failed r e) × ((i j : ℕ) → Cell m f i j → l i j ≡ t i j)
     ended r d e x y =
         let rows = rows_alike r (omega (arith, x.row)) x.earlier y.earlier in
         let row = row_alike r x.row rows x.left y.left in (
-          ap (Failed r) (x.reached ∙ pivot_same f a l t r row ∙ sym y.reached),
+          ap (failed r) (x.reached ∙ pivot_same f a l t r row ∙ sym y.reached),
           λ i j c. ⊎_elim (λ b. rows i j b c.left c.upto)
               (λ b. ⊎_elim (λ u. x.rest i j u c.row c.left c.upto ∙ sym (y.rest i j u c.row c.left c.upto))
               (λ u.
@@ -79,10 +79,15 @@ module _ (m : ℕ) (f : ℕ → ℕ) (low : (i : ℕ) → i < m → f i ≤ i) (
         )
 
   pub only : (l t : Matrix) (h g : Factored) → Cholesky m f a l h → Cholesky m f a t g → (h ≡ g) × ((i j : ℕ) → Cell m f i j → l i j ≡ t i j)
-  only l t Done Done x y = (refl, λ i j c. rows_alike l t m (le_refl m) x y i j c.row c.left c.upto)
-  only l t Done (Failed r d) x y = absurd (clash l t m r d y.row (le_refl m) x y)
-  only l t (Failed r d) Done x y = absurd (clash t l m r d x.row (le_refl m) y x)
-  only l t (Failed r d) (Failed q e) x y =
-      ⊎_elim (λ b. absurd (clash t l q r d b (omega (arith, y.row)) y.earlier x))
-      (λ b. ⊎_elim (λ u. absurd (clash l t r q e u (omega (arith, x.row)) x.earlier y))
-      (λ u. let s : q ≡ r = omega arith in rw s (ended l t r d e x (rw s at y))) (below_or q r)) (below_or r q)
+  only l t (Ok _) (Ok _) x y = (refl, λ i j c. rows_alike l t m (le_refl m) x y i j c.row c.left c.upto)
+  only l t (Ok _) (Err e) x y = absurd (clash l t m e.row e.pivot y.row (le_refl m) x y)
+  only l t (Err e) (Ok _) x y = absurd (clash t l m e.row e.pivot x.row (le_refl m) y x)
+  only l t (Err e) (Err g) x y =
+      let r = e.row in
+      let q = g.row in
+      ⊎_elim (λ b. absurd (clash t l q r e.pivot b (omega (arith, y.row)) y.earlier x))
+      (λ b. ⊎_elim (λ u. absurd (clash l t r q g.pivot u (omega (arith, x.row)) x.earlier y))
+      (λ u.
+      let s : q ≡ r = omega arith in
+      let w = ended l t r e.pivot g.pivot x (rw s at y) in
+      (ap Err (w.0 ∙ rw s refl), w.1)) (below_or q r)) (below_or r q)

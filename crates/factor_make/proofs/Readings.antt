@@ -9,7 +9,8 @@ use Rattle.root.specs.Sqrt.{sqrt_of}
 use Rattle.matrix_shape.specs.Rows.{at}
 use Rattle.factor_load.specs.Load.{beside_of, corner_of, slot_into, slots_into, row_into, load_of}
 use Rattle.factor_row.specs.Row.{later, reduced_of, entry_of, entry_step, left_of, square_step, pivot_of}
-use Rattle.factor_make.specs.declared.Factored.TheVariants.{Done, Failed}
+use Rattle.std.specs.Prelude.{Ok, Err}
+use Rattle.factor_make.specs.Factored.{failed}
 use Rattle.factor_make.specs.Factor.{State, state, close_of, row_of, row_step, factor_of}
 use Rattle.factor_make.specs.Matrix.{matrix_of}
 
@@ -50,11 +51,11 @@ pair_blocks : List Float
 pair_blocks = six ∷ five ∷ five ∷ ten ∷ two ∷ four ∷ seven ∷ five ∷ nine ∷ nine ∷ nine ∷ nine ∷ four ∷ two ∷ two ∷ ten ∷ []
 
 record Readings : Type 0 where
-  done : alone (four ∷ two ∷ two ∷ ten ∷ []) ≡ state Done (two ∷ one ∷ three ∷ [])
-  ended : alone (one ∷ two ∷ two ∷ four ∷ []) ≡ state (Failed 1 (of_bits binary32 0)) (one ∷ two ∷ four ∷ [])
-  unknown : alone (four ∷ two ∷ two ∷ nan ∷ []) ≡ state (Failed 1 nan) (two ∷ one ∷ nan ∷ [])
+  done : alone (four ∷ two ∷ two ∷ ten ∷ []) ≡ state (Ok tt) (two ∷ one ∷ three ∷ [])
+  ended : alone (one ∷ two ∷ two ∷ four ∷ []) ≡ state (Err (failed 1 (of_bits binary32 0))) (one ∷ two ∷ four ∷ [])
+  unknown : alone (four ∷ two ∷ two ∷ nan ∷ []) ≡ state (Err (failed 1 nan)) (two ∷ one ∷ nan ∷ [])
   both : matrix_of 2 (at (0 ∷ 2 ∷ 4 ∷ [])) (at (0 ∷ 1 ∷ 0 ∷ 1 ∷ [])) pair_blocks (at (1 ∷ 0 ∷ [])) (at (0 ∷ 0 ∷ 0 ∷ 0 ∷ [])) (at (0 ∷ 1 ∷ 3 ∷ 6 ∷ 10 ∷ []))
-      ≡ state Done (two ∷ one ∷ three ∷ one ∷ two ∷ one ∷ two ∷ one ∷ one ∷ two ∷ [])
+      ≡ state (Ok tt) (two ∷ one ∷ three ∷ one ∷ two ∷ one ∷ two ∷ one ∷ one ∷ two ∷ [])
 
 readings : Readings
 unfolding alone pair_blocks matrix_of load_of row_into slots_into slot_into beside_of corner_of factor_of row_step row_of close_of pivot_of square_step left_of

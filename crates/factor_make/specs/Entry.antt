@@ -1,15 +1,14 @@
 -- CHOLESKY'S FACTOR, ENTRY BY ENTRY, without lists or places: a is the matrix, l its factor, and f r the first
 -- column that row r holds. `Cholesky` is the rule (module 4) on what the factor's entries are in the end;
 -- proofs/Meaning.antt shows it of what the code leaves, and proofs/Only.antt that it admits one outcome.
-use Rattle.std.specs.Prelude.{ℕ, ◌≤◌, ◌<◌, ◌≡◌, true, false, cond, ltb, Float}
+use Rattle.std.specs.Prelude.{ℕ, ◌≤◌, ◌<◌, ◌≡◌, true, false, cond, ltb, Float, Ok, Err}
 use Rattle.std.specs.Float.Ieee.{lt}
 use Rattle.law.specs.Loop.{over}
 use Rattle.plane.specs.Plane.{◌⊕◌, ◌⊖◌, ◌⊗◌, ◌⊘◌, zero32}
 use Rattle.root.specs.Sqrt.{sqrt_of}
 use Rattle.factor_load.specs.Permuted.{Matrix}
 use Rattle.factor_row.specs.Row.{later}
-use Rattle.factor_make.specs.declared.Factored.{Factored}
-use Rattle.factor_make.specs.declared.Factored.TheVariants.{Done, Failed}
+use Rattle.factor_make.specs.Factored.{Factored}
 
 -- one column's turn of the sum of two rows' products
 unfoldable pub product_step : Matrix → ℕ → ℕ → ℕ → Float → Float
@@ -49,5 +48,5 @@ pub record Ended (m : ℕ) (f : ℕ → ℕ) (a l : Matrix) (r : ℕ) (d : Float
   pub rest : (i j : ℕ) → r < i → i < m → f i ≤ j → j ≤ i → l i j ≡ a i j
 
 abbrev pub Cholesky : ℕ → (ℕ → ℕ) → Matrix → Matrix → Factored → Type 0
-Cholesky m f a l Done = Finished m f a l
-Cholesky m f a l (Failed r d) = Ended m f a l r d
+Cholesky m f a l (Ok _) = Finished m f a l
+Cholesky m f a l (Err e) = Ended m f a l e.row e.pivot

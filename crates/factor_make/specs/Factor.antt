@@ -1,6 +1,6 @@
 -- THE FACTOR, ROW BY ROW AND IN PLACE, as the code works it out: f r is the first column of row r, s r
 -- the place where row r starts. What the entries are, Entry.antt says without places.
-use Rattle.std.specs.Prelude.{ℕ, ◌≡◌, cond, List, length, set, Float}
+use Rattle.std.specs.Prelude.{ℕ, ◌≡◌, cond, List, length, set, Float, Ok, Err}
 use Rattle.std.specs.Float.Ieee.{lt}
 use Rattle.law.specs.Loop.{over}
 use Rattle.plane.specs.Plane.{zero32}
@@ -8,8 +8,7 @@ use Rattle.root.specs.Sqrt.{sqrt_of}
 use Rattle.matrix_shape.specs.Rows.{at}
 use Rattle.plan_fits.specs.Cells.{place, Drawn}
 use Rattle.factor_row.specs.Row.{left_of, pivot_of}
-use Rattle.factor_make.specs.declared.Factored.{Factored}
-use Rattle.factor_make.specs.declared.Factored.TheVariants.{Done, Failed}
+use Rattle.factor_make.specs.Factored.{Factored, failed}
 
 -- how it went, and what the factor's places hold
 pub record State : Type 0 where
@@ -21,7 +20,7 @@ state h v = record { how = h; values = v }
 
 -- a pivot above zero gives the diagonal, its root; any other, NaN too, ends the work and leaves the diagonal
 unfoldable pub close_of : ℕ → ℕ → Float → List Float → State
-close_of i end d v = cond (lt zero32 d) (state Done (set v end (sqrt_of d))) (state (Failed i d) v)
+close_of i end d v = cond (lt zero32 d) (state (Ok tt) (set v end (sqrt_of d))) (state (Err (failed i d)) v)
 
 unfoldable pub row_of : (ℕ → ℕ) → (ℕ → ℕ) → ℕ → List Float → State
 row_of f s i v =
@@ -30,15 +29,15 @@ row_of f s i v =
 
 -- a row is worked on only where none before it has failed
 abbrev pub onward : Factored → State → State → State
-onward Done next s = next
-onward (Failed i d) next s = s
+onward (Ok _) next s = next
+onward (Err e) next s = s
 
 unfoldable pub row_step : (ℕ → ℕ) → (ℕ → ℕ) → ℕ → State → State
 row_step f s i z = onward z.how (row_of f s i z.values) z
 
 -- THE FACTOR of m rows
 unfoldable pub factor_of : (ℕ → ℕ) → (ℕ → ℕ) → ℕ → List Float → State
-factor_of f s m v = over (row_step f s) 0 m (state Done v)
+factor_of f s m v = over (row_step f s) 0 m (state (Ok tt) v)
 
 -- ---- what the code asks
 

@@ -5,47 +5,36 @@ ghost use Rattle.factor_make.specs.Factor.{state, factor_of, Envelope};
 ghost use Rattle.factor_make.specs.Matrix.{matrix_of};
 ghost use Rattle.factor_load.specs.Load.{Loads};
 
-use crate::{Factored, rows};
+use crate::{Failed, rows};
+use matrix_shape::pattern::Pattern;
+use plan_fits::plan::Plan;
 
-// Cholesky's factor of the loaded matrix, in place.
-pub fn factorize(rows: usize, first: &[u32], row_start: &[u32], values: &mut [f32]) -> Factored
-    requires { Envelope rows first.now row_start.now values.old }
-    ensures { state result values.new ≡ factor_of (at first.now) (at row_start.now) rows values.old }
+// Cholesky's factor of the loaded matrix, in place, by number: a row's turn reads the rows before it.
+#[tactic(auto, unfolding(crate::specs::Factor::factor_of, crate::specs::Factor::row_step), using(law::proofs::Loop::over_none, law::proofs::Loop::over_turn, law::proofs::Loop::over_done, law::proofs::Loop::over_stays))]
+pub fn factorize(rows: usize, plan: &Plan, values: &mut [f32]) -> Result<(), Failed>
+    requires { Envelope rows plan.now.first.now plan.now.row_start.now values.old }
+    ensures { state result values.new ≡ factor_of (at plan.now.first.now) (at plan.now.row_start.now) rows values.old }
 {
     for i in 0..rows {
-        let r = rows::row(rows, first, row_start, i, values);
-        let Factored::Done = r else {
-            return r;
-        };
+        rows::row(rows, plan, i, values)?;
     }
-    Factored::Done
+    Ok(())
 }
 
 // The matrix loaded and factored.
+#[tactic(auto, unfolding(crate::specs::Matrix::matrix_of))]
 pub fn factorize_matrix(
-    n: usize,
-    row_offsets: &[u32],
-    cols: &[u32],
+    pattern: &Pattern,
     blocks: &[f32],
-    inv_perm: &[u32],
-    first: &[u32],
-    row_start: &[u32],
+    plan: &Plan,
     values: &mut [f32],
-) -> Factored
-    requires loads { Loads n row_offsets.now cols.now blocks.now inv_perm.now first.now row_start.now }
-    requires values_len { length values.old ≡ at row_start.now (2 * n) }
-    ensures { state result values.new ≡ matrix_of n (at row_offsets.now) (at cols.now) blocks.now
-        (at inv_perm.now) (at first.now) (at row_start.now) }
+) -> Result<(), Failed>
+    requires loads { Loads pattern.now.n pattern.now.row_offsets.now pattern.now.cols.now blocks.now
+        plan.now.inv_perm.now plan.now.first.now plan.now.row_start.now }
+    requires values_len { length values.old ≡ at plan.now.row_start.now (2 * pattern.now.n) }
+    ensures { state result values.new ≡ matrix_of pattern.now.n (at pattern.now.row_offsets.now) (at pattern.now.cols.now)
+        blocks.now (at plan.now.inv_perm.now) (at plan.now.first.now) (at plan.now.row_start.now) }
 {
-    factor_load::inner::load(
-        n,
-        row_offsets,
-        cols,
-        blocks,
-        inv_perm,
-        first,
-        row_start,
-        values,
-    );
-    factorize(2 * n, first, row_start, values)
+    factor_load::inner::load(pattern, blocks, plan, values);
+    factorize(2 * pattern.n, plan, values)
 }

@@ -6,15 +6,18 @@ ghost use Rattle.plan_fits.specs.Cells.{look};
 ghost use Rattle.factor_passes.specs.Passes.{forward_by, forward_of, back_step, backward_of};
 ghost use Rattle.factor_passes.specs.Held.{Held, Row};
 
+use plan_fits::plan::Plan;
+
 // Entry i of y, from those before it; y[i] is still b's.
-fn forward_at(first: &[u32], row_start: &[u32], values: &[f32], y: &[f32], i: usize) -> f32
-    requires { Row first.now row_start.now values.now i × (i < length y.now) }
-    ensures { result ≡ forward_by (at first.now)
-        (look (at first.now) (at row_start.now) values.now)
+#[tactic(auto, using(crate::proofs::Held::forward_bare, crate::proofs::Held::forward_less))]
+fn forward_at(plan: &Plan, values: &[f32], y: &[f32], i: usize) -> f32
+    requires { Row plan.now.first.now plan.now.row_start.now values.now i × (i < length y.now) }
+    ensures { result ≡ forward_by (at plan.now.first.now)
+        (look (at plan.now.first.now) (at plan.now.row_start.now) values.now)
         y.now (get_or y.now i nan) i }
 {
-    let from = law::wide(first[i]);
-    let start = law::wide(row_start[i]);
+    let from = law::wide(plan.first[i]);
+    let start = law::wide(plan.row_start[i]);
     let len = i - from;
     let corner = values[start + len];
     if i <= from {
@@ -23,27 +26,29 @@ fn forward_at(first: &[u32], row_start: &[u32], values: &[f32], y: &[f32], i: us
     (y[i] - flat_runs::run::dot(values, start, y, from, len)) / corner
 }
 
-// L y = b, in place.
-pub fn forward(m: usize, first: &[u32], row_start: &[u32], values: &[f32], y: &mut [f32])
-    requires { Held m first.now row_start.now values.now × (m ≤ length y.old) }
-    ensures { y.new ≡ forward_of (at first.now)
-        (look (at first.now) (at row_start.now) values.now)
+// L y = b, in place, by number: an entry's turn reads those before it.
+#[tactic(auto, unfolding(crate::specs::Passes::forward_of, crate::specs::Passes::forward_step), using(law::proofs::Loop::over_none, law::proofs::Loop::over_turn, law::proofs::Loop::over_done, crate::proofs::Held::row_of))]
+pub fn forward(m: usize, plan: &Plan, values: &[f32], y: &mut [f32])
+    requires { Held m plan.now.first.now plan.now.row_start.now values.now × (m ≤ length y.old) }
+    ensures { y.new ≡ forward_of (at plan.now.first.now)
+        (look (at plan.now.first.now) (at plan.now.row_start.now) values.now)
         m y.old }
 {
     for i in 0..m {
-        y[i] = forward_at(first, row_start, values, y, i);
+        y[i] = forward_at(plan, values, y, i);
     }
 }
 
 // Entry i of x, and its part taken from the entries before it.
-fn back(first: &[u32], row_start: &[u32], values: &[f32], i: usize, y: &mut [f32])
-    requires { Row first.now row_start.now values.now i × (i < length y.old) }
-    ensures { y.new ≡ back_step (at first.now)
-        (look (at first.now) (at row_start.now) values.now)
+#[tactic(auto, using(crate::proofs::Held::back_turn))]
+fn back(plan: &Plan, values: &[f32], i: usize, y: &mut [f32])
+    requires { Row plan.now.first.now plan.now.row_start.now values.now i × (i < length y.old) }
+    ensures { y.new ≡ back_step (at plan.now.first.now)
+        (look (at plan.now.first.now) (at plan.now.row_start.now) values.now)
         i y.old }
 {
-    let from = law::wide(first[i]);
-    let start = law::wide(row_start[i]);
+    let from = law::wide(plan.first[i]);
+    let start = law::wide(plan.row_start[i]);
     let len = i - from;
     let x = y[i] / values[start + len];
     y[i] = x;
@@ -51,13 +56,14 @@ fn back(first: &[u32], row_start: &[u32], values: &[f32], i: usize, y: &mut [f32
 }
 
 // Lᵀ x = y, in place, the last row first.
-pub fn backward(m: usize, first: &[u32], row_start: &[u32], values: &[f32], y: &mut [f32])
-    requires { Held m first.now row_start.now values.now × (m ≤ length y.old) }
-    ensures { y.new ≡ backward_of (at first.now)
-        (look (at first.now) (at row_start.now) values.now)
+#[tactic(auto, unfolding(crate::specs::Passes::backward_of), using(law::proofs::Loop::over_none, law::proofs::Loop::over_turn, law::proofs::Loop::over_done, crate::proofs::Held::row_of))]
+pub fn backward(m: usize, plan: &Plan, values: &[f32], y: &mut [f32])
+    requires { Held m plan.now.first.now plan.now.row_start.now values.now × (m ≤ length y.old) }
+    ensures { y.new ≡ backward_of (at plan.now.first.now)
+        (look (at plan.now.first.now) (at plan.now.row_start.now) values.now)
         m y.old }
 {
-    for k in 0..m {
-        back(first, row_start, values, m - (k + 1), y);
+    for i in (0..m).rev() {
+        back(plan, values, i, y);
     }
 }

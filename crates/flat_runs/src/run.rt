@@ -8,13 +8,13 @@ pub fn dot(u: &[f32], a: usize, v: &[f32], b: usize, m: usize) -> f32
     ensures { result ≡ dot_run u.now a v.now b m }
 {
     let mut sum = 0.0;
-    for c in 0..m {
-        sum = sum + u[a + c] * v[b + c];
+    for (x, y) in u[a..a + m].iter().zip(&v[b..b + m]) {
+        sum = sum + *x * *y;
     }
     sum
 }
 
-// m of u's floats from a on, times t, taken from y's from b on.
+// m of u's floats from a on, times t, taken from y's from b on. A loop by c: an adapter of iter_mut keeps only the length of what it wrote.
 pub fn take(u: &[f32], a: usize, b: usize, m: usize, t: f32, y: &mut [f32])
     requires { (a + m ≤ length u.now) × (b + m ≤ length y.old) }
     ensures { y.new ≡ take_run u.now a b m t y.old }

@@ -10,6 +10,13 @@ pub enum Turned {
     Onward { norm: f32, rz: f32 },
 }
 
+// What a solve is to reach: the residual's length as a part of b's, or else so many turns.
+#[derive(Clone, Copy)]
+pub struct Settings {
+    pub tolerance: f32,
+    pub max_iterations: usize,
+}
+
 // How a solve ended: after how many turns, and with what squared length of the running residual.
 #[derive(Clone, Copy)]
 pub enum Outcome {

@@ -9,9 +9,9 @@ use Rattle.gradient_doors.specs.contracts.solve as solve
 
 pub one_update_preconditioner : OneOutcome update-preconditioner.ended (λ M 𝓤. update-preconditioner.spec)
 one_update_preconditioner = plainly update-preconditioner.ended _ (λ κs a p.
-    of_door updating.door _ _ (λ o. (o.answer, past 5 (o.preconditioner, tt))) refl (λ k. refl) (λ w. refl))
+    of_door updating.door _ _ (λ o. (o.answer, past 2 (o.preconditioner, tt))) refl (λ k. refl) (λ w. refl))
 
 pub one_solve : OneOutcome solve.ended (λ M 𝓤. solve.spec)
 unfolding solving.work
 one_solve = plainly solve.ended _ (λ κs a p.
-    of_door solving.door _ _ (λ o. (o.answer, past 9 (o.x, (o.residual, (o.direction, (o.a_direction, (o.z, tt))))))) refl (λ k. refl) (λ w. refl))
+    of_door solving.door _ _ (λ o. (o.answer, past 5 (o.x, (o.residual, (o.direction, (o.a_direction, (o.z, tt))))))) refl (λ k. refl) (λ w. refl))

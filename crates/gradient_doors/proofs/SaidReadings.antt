@@ -14,6 +14,7 @@ use Rattle.law.specs.Said.{Said, refused, carries}
 use Rattle.vectors.specs.Whole.{dot_all}
 use Rattle.matrix_shape.specs.Formed.{slot_ok, home_ok, row_ok, stored, mirrors_ok, starts_ok, well_formed}
 use Rattle.matrix_shape.specs.Given.{pattern_room, formed}
+use Rattle.matrix_shape.specs.Shape.{shape}
 use Rattle.matrix_values.specs.Product.{slot_step, row_sum, product_at}
 use Rattle.gradient_definition.specs.Vectors.{product, preconditioned, advanced, retreated, redirected, lacking, scaled, zeros}
 use Rattle.gradient_definition.specs.Solve.{turn, run, rescaled, finished, fresh_of, launched, started, solved}
@@ -39,11 +40,11 @@ ran : List ℕ → List ℕ → ℕ → ℕ → Said
 ran block b tolerance limit =
     let m = floats block in
     let v = floats (0 ∷ 0 ∷ []) in
-    (outcome solving.door (solving.given 1 (0 ∷ 1 ∷ []) (0 ∷ []) (0 ∷ []) m m (floats b) (of_bits binary32 tolerance) limit v v v v v)).said
+    (outcome solving.door (solving.given (shape 1 (0 ∷ 1 ∷ []) (0 ∷ []) (0 ∷ [])) m m (floats b) (of_bits binary32 tolerance) limit v v v v v)).said
 
 -- the column is given
 updated : ℕ → Said
-updated col = (outcome updating.door (updating.given 1 (0 ∷ 1 ∷ []) (col ∷ []) (0 ∷ []) (floats eye) (floats eye))).said
+updated col = (outcome updating.door (updating.given (shape 1 (0 ∷ 1 ∷ []) (col ∷ []) (0 ∷ [])) (floats eye) (floats eye))).said
 
 record Readings : Type 0 where
   zero : ran eye (0 ∷ 0 ∷ []) 0 1 ≡ carries 1 (0 ∷ []) []

@@ -1,25 +1,25 @@
 -- THE DOOR `solve`: the conjugate gradient, with the preconditioner as it stands. What it is handed and refuses is `gradient_refusals`'.
-use Rattle.std.specs.Prelude.{ℕ, ◌*◌, ◌≤◌, ◌≡◌, true, List, ◌++◌, length, take, drop, Float}
+use Rattle.std.specs.Prelude.{ℕ, ◌*◌, ◌≤◌, ◌≡◌, true, List, ◌++◌, length, take, drop, Float, Result, Ok, Err}
 use Rattle.std.proofs.Common.{ap, arith, length-take-le, leb-true}
 use Rattle.law.specs.Limit.{particles}
 use Rattle.law.proofs.Room.{enough_is}
+use Rattle.law.specs.declared.refusal.Refusal.{Refusal}
 use Rattle.law.specs.Refusal.{verdict}
 use Rattle.law.proofs.Refusals.{all_pass}
 use Rattle.law.specs.Promise.{Door}
 use Rattle.law.specs.Said.{Said}
 use Rattle.matrix_shape.specs.Rows.{rows_of}
 use Rattle.matrix_shape.specs.Given.{pattern}
+use Rattle.matrix_shape.specs.Shape.{shape}
 use Rattle.gradient_definition.specs.declared.Outcome.{Outcome}
 use Rattle.gradient_definition.specs.Vectors.{Matrix, product, preconditioned, zeros}
 use Rattle.gradient_definition.specs.Solve.{Ended, ended, Sized, solved}
-use Rattle.gradient_doors.specs.declared.Solved.{Solved}
-use Rattle.gradient_doors.specs.declared.Solved.TheVariants.{Refused, Ran}
 use Rattle.gradient_doors.specs.Said.{solved_said}
 pub use Rattle.gradient_refusals.specs.Solving.{In, given, in_order}
 unfoldable pub use Rattle.gradient_refusals.specs.Solving.{vectors_room, refusals}
 
 pub record Out : Type 0 where
-  pub answer : Solved
+  pub answer : Result Outcome Refusal
   pub said : Said
   pub x : List Float
   pub residual : List Float
@@ -27,7 +27,7 @@ pub record Out : Type 0 where
   pub a_direction : List Float
   pub z : List Float
 
-abbrev pub left : Solved → List Float → List Float → List Float → List Float → List Float → Out
+abbrev pub left : Result Outcome Refusal → List Float → List Float → List Float → List Float → List Float → Out
 left r x residual direction a_direction z = record {
   answer = r;
   said = solved_said r;
@@ -53,7 +53,7 @@ unfoldable pub work : In → Out
 work i =
     let e = solve_for i in
     let none = zeros i.n in
-    left (Ran e.how) (over i.n e.x i.x) (over i.n none i.residual) (over i.n none i.direction)
+    left (Ok e.how) (over i.n e.x i.x) (over i.n none i.residual) (over i.n none i.direction)
     (over i.n none i.a_direction) (over i.n none i.z)
 
 -- a refusal changes nothing
@@ -62,7 +62,7 @@ door = record {
   tests = refusals;
   in_order = in_order;
   work = work;
-  refuse = λ k i. left (Refused k) i.x i.residual i.direction
+  refuse = λ k i. left (Err k) i.x i.residual i.direction
       i.a_direction i.z;
 }
 
@@ -79,10 +79,10 @@ pub record Ready (i : In) : Type 0 where
   pub a_direction : 2 * i.n ≤ length i.a_direction
   pub z : 2 * i.n ≤ length i.z
 
-pub ready : (i : In) → verdict (refusals i) ≡ 0 → Ready i
+pub ready : (i : In) → Ok tt ≡ verdict (refusals i) → Ready i
 unfolding refusals vectors_room
 ready i h =
-    let p = all_pass 1 (refusals i) (omega arith) (in_order i) h in
+    let p = all_pass (refusals i) h in
     let e = enough_is true (vectors_room i.n i.row_offsets i.blocks i.preconditioner i.b i.x i.residual i.direction
     i.a_direction i.z) p.1.1.0 in
     let few = leb-true _ _ p.0 in
@@ -100,7 +100,7 @@ ready i h =
 
 -- the work asks nothing of x but its length
 pub ready_with : (i : In) (x : List Float) → length x ≡ length i.x → Ready i
-    → Ready (given i.n i.row_offsets i.cols i.diagonal i.blocks i.preconditioner i.b i.tolerance i.max_iterations x
+    → Ready (given (shape i.n i.row_offsets i.cols i.diagonal) i.blocks i.preconditioner i.b i.tolerance i.max_iterations x
     i.residual i.direction i.a_direction i.z)
 ready_with i x e g = record {
   few = g.few;
@@ -132,7 +132,7 @@ pub whole_is : (i : In) (o : Outcome) (x r d a z : List Float)
     → (ended o x ≡ solved i.n (product i.n i.row_offsets i.cols i.blocks) (preconditioned i.n i.preconditioner) i.b
     i.tolerance i.max_iterations (take (2 * i.n) i.x))
     × (r ≡ zeros i.n) × (d ≡ zeros i.n) × (a ≡ zeros i.n) × (z ≡ zeros i.n)
-    → left (Ran o) (over i.n x i.x) (over i.n r i.residual) (over i.n d i.direction) (over i.n a i.a_direction)
+    → left (Ok o) (over i.n x i.x) (over i.n r i.residual) (over i.n d i.direction) (over i.n a i.a_direction)
     (over i.n z i.z) ≡ work i
 unfolding work solve_for
 whole_is i o x r d a z h =

@@ -2,11 +2,12 @@
 use Rattle.std.specs.Prelude.{ℕ, ◌*◌, true, List, [], ◌∷◌, length, leb, Float}
 use Rattle.std.proofs.Common.{arith}
 use Rattle.law.specs.Limit.{particles}
-use Rattle.law.specs.Number.{too_many_particles, short_buffer, bad_pattern, bad_settings}
+use Rattle.law.specs.declared.refusal.Refusal.TheVariants.{TooManyParticles, ShortBuffer, BadPattern, BadSettings}
 use Rattle.law.specs.Room.{Room, enough}
 use Rattle.law.specs.Refusal.{Test, unless, Rising}
 use Rattle.matrix_shape.specs.Rows.{at}
 use Rattle.matrix_shape.specs.Given.{pattern_room, formed}
+use Rattle.matrix_shape.specs.Shape.{Shape}
 use Rattle.gradient_refusals.specs.Settings.{settings_ok}
 
 pub record In : Type 0 where
@@ -25,13 +26,12 @@ pub record In : Type 0 where
   pub a_direction : List Float
   pub z : List Float
 
-abbrev pub given : ℕ → List ℕ → List ℕ → List ℕ → List Float → List Float → List Float → Float → ℕ → List Float → List Float → List Float → List Float
-    → List Float → In
-given n starts cols diagonal blocks preconditioner b tolerance limit x residual direction a_direction z = record {
-  n = n;
-  row_offsets = starts;
-  cols = cols;
-  diagonal = diagonal;
+abbrev pub given : Shape → List Float → List Float → List Float → Float → ℕ → List Float → List Float → List Float → List Float → List Float → In
+given p blocks preconditioner b tolerance limit x residual direction a_direction z = record {
+  n = p.n;
+  row_offsets = p.row_offsets;
+  cols = p.cols;
+  diagonal = p.diagonal;
   blocks = blocks;
   preconditioner = preconditioner;
   b = b;
@@ -60,12 +60,12 @@ vectors_room n starts blocks preconditioner b x residual direction a_direction z
 -- THE REFUSALS
 unfoldable pub refusals : In → List Test
 refusals i =
-    unless too_many_particles (leb i.n particles)
-    ∷ unless short_buffer (enough true (pattern_room i.n i.row_offsets i.cols i.diagonal))
-    ∷ unless short_buffer (enough true (vectors_room i.n i.row_offsets i.blocks i.preconditioner i.b i.x i.residual i.direction
+    unless TooManyParticles (leb i.n particles)
+    ∷ unless ShortBuffer (enough true (pattern_room i.n i.row_offsets i.cols i.diagonal))
+    ∷ unless ShortBuffer (enough true (vectors_room i.n i.row_offsets i.blocks i.preconditioner i.b i.x i.residual i.direction
     i.a_direction i.z))
-    ∷ unless bad_pattern (formed i.n i.row_offsets i.cols i.diagonal)
-    ∷ unless bad_settings (settings_ok i.tolerance i.max_iterations)
+    ∷ unless BadPattern (formed i.n i.row_offsets i.cols i.diagonal)
+    ∷ unless BadSettings (settings_ok i.tolerance i.max_iterations)
     ∷ []
 
 pub in_order : (i : In) → Rising 1 (refusals i)

@@ -2,11 +2,12 @@
 use Rattle.std.specs.Prelude.{ℕ, ◌*◌, true, List, [], ◌∷◌, length, leb, Float}
 use Rattle.std.proofs.Common.{arith}
 use Rattle.law.specs.Limit.{particles}
-use Rattle.law.specs.Number.{too_many_particles, short_buffer, bad_pattern}
+use Rattle.law.specs.declared.refusal.Refusal.TheVariants.{TooManyParticles, ShortBuffer, BadPattern}
 use Rattle.law.specs.Room.{Room, enough}
 use Rattle.law.specs.Refusal.{Test, unless, Rising}
 use Rattle.matrix_shape.specs.Rows.{at}
 use Rattle.matrix_shape.specs.Given.{pattern_room, formed}
+use Rattle.matrix_shape.specs.Shape.{Shape}
 
 pub record In : Type 0 where
   pub n : ℕ
@@ -16,12 +17,12 @@ pub record In : Type 0 where
   pub blocks : List Float
   pub preconditioner : List Float
 
-abbrev pub given : ℕ → List ℕ → List ℕ → List ℕ → List Float → List Float → In
-given n starts cols diagonal blocks preconditioner = record {
-  n = n;
-  row_offsets = starts;
-  cols = cols;
-  diagonal = diagonal;
+abbrev pub given : Shape → List Float → List Float → In
+given p blocks preconditioner = record {
+  n = p.n;
+  row_offsets = p.row_offsets;
+  cols = p.cols;
+  diagonal = p.diagonal;
   blocks = blocks;
   preconditioner = preconditioner;
 }
@@ -33,10 +34,10 @@ inverses_room n starts blocks preconditioner = (4 * at starts n, length blocks) 
 -- THE REFUSALS
 unfoldable pub refusals : In → List Test
 refusals i =
-    unless too_many_particles (leb i.n particles)
-    ∷ unless short_buffer (enough true (pattern_room i.n i.row_offsets i.cols i.diagonal))
-    ∷ unless short_buffer (enough true (inverses_room i.n i.row_offsets i.blocks i.preconditioner))
-    ∷ unless bad_pattern (formed i.n i.row_offsets i.cols i.diagonal)
+    unless TooManyParticles (leb i.n particles)
+    ∷ unless ShortBuffer (enough true (pattern_room i.n i.row_offsets i.cols i.diagonal))
+    ∷ unless ShortBuffer (enough true (inverses_room i.n i.row_offsets i.blocks i.preconditioner))
+    ∷ unless BadPattern (formed i.n i.row_offsets i.cols i.diagonal)
     ∷ []
 
 pub in_order : (i : In) → Rising 1 (refusals i)

@@ -2,10 +2,13 @@
 ghost use Rattle.std.specs.Prelude.{◌≡◌};
 ghost use Rattle.gradient_refusals.specs.Settings.{settings_ok};
 
+use gradient_definition::Settings;
+
 // At least zero also holds of -0.0; below infinity of no NaN.
-pub fn settings_ok(tolerance: f32, max_iterations: usize) -> bool
-    ensures { result ≡ settings_ok tolerance max_iterations }
+pub fn settings_ok(settings: Settings) -> bool
+    ensures { result ≡ settings_ok settings.tolerance settings.max_iterations }
 {
-    let top = 1.0f32 / 0.0;
-    (0.0 <= tolerance) & (tolerance < top) & (max_iterations <= law::ITERATIONS)
+    (0.0 <= settings.tolerance)
+        & (settings.tolerance < f32::INFINITY)
+        & (settings.max_iterations <= law::ITERATIONS)
 }

@@ -1,50 +1,46 @@
-// The numbers that calls are refused by. Tests run in phases, so that none reads past a list's end.
+// What calls are refused for. Tests run in phases, so that none reads past a list's end.
+// Each call's list stands whole: the three lines that both have stand round the call's own, which a function of the rest would have to be handed.
+// The clause of the rooms is what the tests before them have shown, of a pattern that isn't one yet: no type holds it.
+// Lists come one by one, as the doors that take them by &mut have them.
 ghost use Rattle.std.specs.Prelude.{◌≡◌, true, ◌≤◌, ◌<◌, length};
 ghost use Rattle.law.specs.Limit.{particles};
 ghost use Rattle.law.specs.Room.{enough};
 ghost use Rattle.law.specs.Refusal.{verdict};
+ghost use Rattle.matrix_shape.specs.Shape.{lists};
 ghost use Rattle.gradient_refusals.specs.Solving as solving;
 ghost use Rattle.gradient_refusals.specs.Updating as updating;
 
 use crate::given::settings_ok;
+use gradient_definition::Settings;
+use law::refusal::{Refusal, ensure};
+use matrix_shape::pattern::Pattern;
+use matrix_test::given::pattern_formed;
 
-pub fn inverses_room(n: usize, row_offsets: &[u32], blocks: &[f32], preconditioner: &[f32]) -> bool
-    requires { (n ≤ particles) × (n < length row_offsets.now) }
-    ensures { result ≡ enough true (updating.inverses_room n row_offsets.now blocks.now preconditioner.now) }
+#[tactic(auto, unfolding(law::specs::Room::enough, matrix_shape::specs::Given::blocks_room, crate::specs::Updating::inverses_room))]
+pub fn inverses_room(pattern: &Pattern, blocks: &[f32], preconditioner: &[f32]) -> bool
+    requires { (pattern.now.n ≤ particles) × (pattern.now.n < length pattern.now.row_offsets.now) }
+    ensures { result ≡ enough true
+        (updating.inverses_room pattern.now.n pattern.now.row_offsets.now blocks.now preconditioner.now) }
 {
-    (4 * law::wide(row_offsets[n]) <= blocks.len()) & (4 * n <= preconditioner.len())
+    pattern.blocks_fit(blocks) & (4 * pattern.n <= preconditioner.len())
 }
 
-pub fn updating(
-    n: usize,
-    row_offsets: &[u32],
-    cols: &[u32],
-    diagonal: &[u32],
-    blocks: &[f32],
-    preconditioner: &[f32],
-) -> u8
-    ensures { result ≡ verdict
-        (updating.refusals (updating.given n row_offsets.now cols.now diagonal.now blocks.now
-        preconditioner.now)) }
+#[tactic(auto, unfolding(law::specs::Refusal::verdict, crate::specs::Updating::refusals), using(matrix_shape::specs::Given::held))]
+pub fn updating(pattern: &Pattern, blocks: &[f32], preconditioner: &[f32]) -> Result<(), Refusal>
+    ensures { result ≡ verdict (updating.refusals (updating.given (lists pattern.now) blocks.now preconditioner.now)) }
 {
-    if law::PARTICLES < n {
-        return law::refusal::TOO_MANY_PARTICLES;
-    }
-    if !matrix_test::given::pattern_room(n, row_offsets, cols, diagonal) {
-        return law::refusal::SHORT_BUFFER;
-    }
-    if !inverses_room(n, row_offsets, blocks, preconditioner) {
-        return law::refusal::SHORT_BUFFER;
-    }
-    if !matrix_test::given::pattern_formed(n, row_offsets, cols, diagonal) {
-        return law::refusal::BAD_PATTERN;
-    }
-    0
+    ensure(pattern.n <= law::PARTICLES, Refusal::TooManyParticles)?;
+    ensure(pattern.has_room(), Refusal::ShortBuffer)?;
+    ensure(
+        inverses_room(pattern, blocks, preconditioner),
+        Refusal::ShortBuffer,
+    )?;
+    ensure(pattern_formed(pattern), Refusal::BadPattern)
 }
 
+#[tactic(auto, unfolding(law::specs::Room::enough, matrix_shape::specs::Given::blocks_room, crate::specs::Solving::vectors_room))]
 pub fn vectors_room(
-    n: usize,
-    row_offsets: &[u32],
+    pattern: &Pattern,
     blocks: &[f32],
     preconditioner: &[f32],
     b: &[f32],
@@ -54,14 +50,14 @@ pub fn vectors_room(
     a_direction: &[f32],
     z: &[f32],
 ) -> bool
-    requires { (n ≤ particles) × (n < length row_offsets.now) }
+    requires { (pattern.now.n ≤ particles) × (pattern.now.n < length pattern.now.row_offsets.now) }
     ensures { result ≡ enough true
-        (solving.vectors_room n row_offsets.now blocks.now preconditioner.now b.now x.now
+        (solving.vectors_room pattern.now.n pattern.now.row_offsets.now blocks.now preconditioner.now b.now x.now
         residual.now direction.now a_direction.now z.now) }
 {
-    let m = 2 * n;
-    (4 * law::wide(row_offsets[n]) <= blocks.len())
-        & (4 * n <= preconditioner.len())
+    let m = 2 * pattern.n;
+    pattern.blocks_fit(blocks)
+        & (4 * pattern.n <= preconditioner.len())
         & (m <= b.len())
         & (m <= x.len())
         & (m <= residual.len())
@@ -70,52 +66,39 @@ pub fn vectors_room(
         & (m <= z.len())
 }
 
+#[tactic(auto, unfolding(law::specs::Refusal::verdict, crate::specs::Solving::refusals), using(matrix_shape::specs::Given::held))]
 pub fn solving(
-    n: usize,
-    row_offsets: &[u32],
-    cols: &[u32],
-    diagonal: &[u32],
+    pattern: &Pattern,
     blocks: &[f32],
     preconditioner: &[f32],
     b: &[f32],
-    tolerance: f32,
-    max_iterations: usize,
+    settings: Settings,
     x: &[f32],
     residual: &[f32],
     direction: &[f32],
     a_direction: &[f32],
     z: &[f32],
-) -> u8
+) -> Result<(), Refusal>
     ensures { result ≡ verdict
-        (solving.refusals (solving.given n row_offsets.now cols.now diagonal.now blocks.now
-        preconditioner.now b.now tolerance max_iterations x.now residual.now direction.now
-        a_direction.now z.now)) }
+        (solving.refusals (solving.given (lists pattern.now) blocks.now preconditioner.now b.now settings.tolerance
+        settings.max_iterations x.now residual.now direction.now a_direction.now z.now)) }
 {
-    if law::PARTICLES < n {
-        return law::refusal::TOO_MANY_PARTICLES;
-    }
-    if !matrix_test::given::pattern_room(n, row_offsets, cols, diagonal) {
-        return law::refusal::SHORT_BUFFER;
-    }
-    if !vectors_room(
-        n,
-        row_offsets,
-        blocks,
-        preconditioner,
-        b,
-        x,
-        residual,
-        direction,
-        a_direction,
-        z,
-    ) {
-        return law::refusal::SHORT_BUFFER;
-    }
-    if !matrix_test::given::pattern_formed(n, row_offsets, cols, diagonal) {
-        return law::refusal::BAD_PATTERN;
-    }
-    if !settings_ok(tolerance, max_iterations) {
-        return law::refusal::BAD_SETTINGS;
-    }
-    0
+    ensure(pattern.n <= law::PARTICLES, Refusal::TooManyParticles)?;
+    ensure(pattern.has_room(), Refusal::ShortBuffer)?;
+    ensure(
+        vectors_room(
+            pattern,
+            blocks,
+            preconditioner,
+            b,
+            x,
+            residual,
+            direction,
+            a_direction,
+            z,
+        ),
+        Refusal::ShortBuffer,
+    )?;
+    ensure(pattern_formed(pattern), Refusal::BadPattern)?;
+    ensure(settings_ok(settings), Refusal::BadSettings)
 }

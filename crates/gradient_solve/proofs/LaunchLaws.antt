@@ -1,14 +1,12 @@
 -- What the start's steps come to, in the words of the definition. Assumes nothing.
 use Prim.Native.Nat.{ℕ}
 use mathlib.Core.Path.{◌≡◌, ap, ◌∙◌}
-use mathlib.Core.Bool.{true, false}
 use mathlib.Core.List.{List}
-use lib.Ieee.{Float, le}
+use lib.Ieee.{Float}
 use Rattle.vectors.specs.Whole.{dot_all}
 use Rattle.gradient_definition.specs.declared.Outcome.{Outcome}
-use Rattle.gradient_definition.specs.declared.Outcome.TheVariants.{Near}
 use Rattle.gradient_definition.specs.Vectors.{Map, lacking}
-use Rattle.gradient_definition.specs.Solve.{Ended, state, ended, run, finished, fresh_of, launched, started}
+use Rattle.gradient_definition.specs.Solve.{state, ended, run, finished, fresh_of, launched}
 
 -- the residual in two steps
 pub fresh_is : (n : ℕ) (A : Map) (b x r₁ r : List Float) → r₁ ≡ A x → r ≡ lacking n b r₁ → r ≡ fresh_of n A b x
@@ -22,12 +20,3 @@ module _ (n : ℕ) (A P : Map) (b : List Float) (threshold : Float) (limit : ℕ
       → ended p x₂ ≡ launched n A P b threshold limit norm x r
   unfolding launched
   launch_is norm x r z d rz o p x₁ x₂ z_is d-is rz-is run_is finish_is = finish_is ∙ ap (finished n A b) (rw (d-is, rz-is, z_is) at run_is)
-
-  module _ (x r : List Float) (norm : Float) (r-is : r ≡ fresh_of n A b x) (norm-is : norm ≡ dot_all n r r) where
-    pub start_near : le norm threshold ≡ true → ended (Near 0 norm) x ≡ started n A P b threshold limit x
-    unfolding started
-    start_near t = rw (← r-is, ← norm-is, t)
-
-    pub start_far : le norm threshold ≡ false → (e : Ended) → e ≡ launched n A P b threshold limit norm x r → e ≡ started n A P b threshold limit x
-    unfolding started
-    start_far t e e-is = e-is ∙ rw (← r-is, ← norm-is, t)

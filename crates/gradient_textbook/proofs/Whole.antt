@@ -1,15 +1,13 @@
 -- THE THEOREMS: there are such sequences; the definition's run is their trace and its solve the finish of it, both ways; and so is what the public call
 -- leaves, by its promise alone. Assumes nothing.
-use Prim.Native.Nat.{ℕ}
-use native.Mathlib.Omega.{arith}
 use mathlib.Core.Path.{◌≡◌, refl, ap}
 use mathlib.Core.Logic.{⊎_elim}
+use Rattle.std.specs.Prelude.{Result, Ok, Err}
+use Rattle.law.specs.declared.refusal.Refusal.{Refusal}
 use Rattle.law.specs.Promise.{IsWork}
 use Rattle.law.proofs.Promise.{work_or_refusal}
 use Rattle.gradient_definition.specs.declared.Outcome.{Outcome}
 use Rattle.gradient_definition.specs.Solve.{run}
-use Rattle.gradient_doors.specs.declared.Solved.{Solved}
-use Rattle.gradient_doors.specs.declared.Solved.TheVariants.{Refused, Ran}
 use Rattle.gradient_doors.specs.Solving.{In, Out, solve_for, work, door}
 use Rattle.gradient_textbook.specs.Trace.{norm, held, Trace, RunIsTrace, SolveIsTrace}
 use Rattle.gradient_textbook.specs.Door.{MethodOf, Leaves, CallIsTrace}
@@ -28,13 +26,13 @@ solve_is_trace n A P b start m tolerance limit e = (one_solve m tolerance limit 
 
 -- ---- the call
 
-apart : (k : ℕ) (how : Outcome) (r : Solved) → r ≡ Refused k → r ≡ Ran how → ⊥
-apart k how r p q = let z : ◌≡◌ {A = ℕ} 0 1 = cc in omega arith
+apart : (k : Refusal) (how : Outcome) (r : Result Outcome Refusal) → r ≡ Err k → r ≡ Ok how → ⊥
+apart k how r p q = cc
 
-same_outcome : (how other : Outcome) (r : Solved) → r ≡ Ran how → r ≡ Ran other → how ≡ other
+same_outcome : (how other : Outcome) (r : Result Outcome Refusal) → r ≡ Ok how → r ≡ Ok other → how ≡ other
 same_outcome how other r p q = cc
 
-module _ (i : In) (m : MethodOf i) (o : Out) (how : Outcome) (answered : o.answer ≡ Ran how) where
+module _ (i : In) (m : MethodOf i) (o : Out) (how : Outcome) (answered : o.answer ≡ Ok how) where
   of_work : IsWork door i o → Leaves i m o how
   unfolding work solve_for
   of_work w =

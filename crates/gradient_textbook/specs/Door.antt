@@ -1,11 +1,10 @@
 -- THE TRACE OF THE PUBLIC CALL `solve`. It was handed i and came to o: o.answer is what it answered, o.x the caller's x as it then stands.
-use Rattle.std.specs.Prelude.{◌*◌, ◌≡◌, List, [], ◌∷◌, take, Float}
+use Rattle.std.specs.Prelude.{◌*◌, ◌≡◌, List, [], ◌∷◌, take, Float, Ok}
 use Rattle.law.specs.Promise.{Promise}
 use Rattle.law.specs.Said.{carries}
 use Rattle.gradient_definition.specs.declared.Outcome.{Outcome}
 use Rattle.gradient_definition.specs.Vectors.{product, preconditioned}
 use Rattle.gradient_definition.specs.Solve.{ended, number_of, count_of, values_of}
-use Rattle.gradient_doors.specs.declared.Solved.TheVariants.{Ran}
 use Rattle.gradient_doors.specs.Solving.{In, Out, over, door}
 use Rattle.gradient_textbook.specs.Method.{Method}
 use Rattle.gradient_textbook.specs.Trace.{Solve}
@@ -27,4 +26,4 @@ pub record Leaves (i : In) (m : MethodOf i) (o : Out) (how : Outcome) : Type 0 w
 
 -- so it is after every call that answered an outcome
 abbrev pub CallIsTrace : Type 0
-CallIsTrace = (i : In) (m : MethodOf i) (o : Out) → Promise door i o → (how : Outcome) → o.answer ≡ Ran how → Leaves i m o how
+CallIsTrace = (i : In) (m : MethodOf i) (o : Out) → Promise door i o → (how : Outcome) → o.answer ≡ Ok how → Leaves i m o how

@@ -1,5 +1,4 @@
 -- What follows of specs/One.antt: its theorems, apart from the definitions.
-use Prim.Native.Nat.{ℕ, zero, suc}
 use Rattle.std.specs.Prelude.{◌≡◌}
 use Rattle.std.proofs.Common.{sym, ap, ◌∙◌}
 use seplogic.Ra.Ura.{Ura}
@@ -9,7 +8,9 @@ use contract.Monad.{fact, fact_i, fact_mono}
 use contract.Lifetimes.{Lfts}
 use denote.Triple.Entry.{Args, Res}
 use denote.Triple.Clauses.{Ended, Lasts, lasts}
-use Rattle.law.specs.Refusal.{verdict}
+use Rattle.std.specs.Prelude.{Ok, Err}
+use Rattle.law.specs.declared.refusal.Refusal.{Refusal}
+use Rattle.law.specs.Refusal.{Verdict, verdict}
 use Rattle.law.specs.Promise.{Door, Promise, Counted, outcome, by}
 use Rattle.law.specs.One.{Holding, One, OneOutcome, Outcome, Passed, Says}
 
@@ -50,23 +51,23 @@ of_both first second a b back d e f = (back a b, ((d, e), λ w h. sym (f w) ∙ 
 
 module _ {I O : Type 0} (d : Door I O) (i : I) where
   -- what the work and each refusal have, the outcome has
-  pub comes_so : (Q : O → Type 0) → Q (d.work i) → ((k : ℕ) → Q (d.refuse k i)) → Q (outcome d i)
+  pub comes_so : (Q : O → Type 0) → Q (d.work i) → ((k : Refusal) → Q (d.refuse k i)) → Q (outcome d i)
   unfolding outcome
   comes_so Q works refuses = go (verdict (d.tests i))
     where
-      go : (k : ℕ) → Q (by k (d.work i) (λ j. d.refuse j i))
-      go zero = works
-      go (suc k) = refuses (suc k)
+      go : (v : Verdict) → Q (by v (d.work i) (λ j. d.refuse j i))
+      go (Ok tt) = works
+      go (Err k) = refuses k
 
   module _ {W : Type 0} (left : W → O) where
     -- a door's promise
-    pub of_door : (back : O → W) → left (back (d.work i)) ≡ d.work i → ((k : ℕ) → left (back (d.refuse k i)) ≡ d.refuse k i)
+    pub of_door : (back : O → W) → left (back (d.work i)) ≡ d.work i → ((k : Refusal) → left (back (d.refuse k i)) ≡ d.refuse k i)
         → ((w : W) → back (left w) ≡ w) → One (λ (w : W). Promise d i (left w))
     of_door back works refuses f = of_parts left (outcome d i) back (comes_so (λ o. left (back o) ≡ o) works refuses) f
 
     -- and that of one that counts: `last` is the record that w leaves
     pub of_counted : {R : Type 0} (counts : R → O → R) (t : R) (last : W → R) (back : O → R → W)
-        → ((u : R) → left (back (d.work i) u) ≡ d.work i) → ((k : ℕ) (u : R) → left (back (d.refuse k i) u) ≡ d.refuse k i)
+        → ((u : R) → left (back (d.work i) u) ≡ d.work i) → ((k : Refusal) (u : R) → left (back (d.refuse k i) u) ≡ d.refuse k i)
         → ((o : O) (u : R) → last (back o u) ≡ u) → ((w : W) → back (left w) (last w) ≡ w) → One (λ (w : W). Counted d counts i t (left w) (last w))
     of_counted {R} counts t last back works refuses ends f =
         let o : O = outcome d i in

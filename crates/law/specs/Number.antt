@@ -1,39 +1,15 @@
--- THE REFUSAL NUMBERS (RULES.md § 3), each named once for the definitions; src/refusal.rt
--- names the same for the code, and each call's proof holds the two together.
+-- THE REFUSAL NUMBERS (RULES.md § 3): what each refusal of src/refusal.rt is called in the rules, over the C interface and in a program's answer.
 use Rattle.std.specs.Prelude.{ℕ}
+use Rattle.law.specs.declared.refusal.Refusal.{Refusal}
+use Rattle.law.specs.declared.refusal.Refusal.TheVariants.{TooManyParticles, TooManyEntries, ShortBuffer, OutOfRange, BadPattern, BadPlan, LongEnvelope, BadSettings, BadText}
 
--- more than 1,024 particles
-abbrev pub too_many_particles : ℕ
-too_many_particles = 1
-
--- more than 4,096 pairs or 16 response entries, or one more loaded particle than 16
-abbrev pub too_many_entries : ℕ
-too_many_entries = 2
-
--- a lent buffer is shorter than the call needs
-abbrev pub short_buffer : ℕ
-short_buffer = 3
-
--- a pair of different numbers has one at n or above; or a row or particle asked for is
-abbrev pub out_of_range : ℕ
-out_of_range = 4
-
--- the pattern is not well formed
-abbrev pub bad_pattern : ℕ
-bad_pattern = 5
-
--- the plan does not fit, or a table of columns is none
-abbrev pub bad_plan : ℕ
-bad_plan = 6
-
--- the envelope is longer than the limit
-abbrev pub long_envelope : ℕ
-long_envelope = 7
-
--- tolerance or iteration limit
-abbrev pub bad_settings : ℕ
-bad_settings = 8
-
--- the program's text
-abbrev pub bad_text : ℕ
-bad_text = 9
+abbrev pub number : Refusal → ℕ
+number TooManyParticles = 1
+number TooManyEntries = 2
+number ShortBuffer = 3
+number OutOfRange = 4
+number BadPattern = 5
+number BadPlan = 6
+number LongEnvelope = 7
+number BadSettings = 8
+number BadText = 9

@@ -1,4 +1,4 @@
-// The laws that every crate cites are in specs/. The code has only the limits (RULES.md § 2), the refusal numbers (§ 3), a widening cast and a list zeroed.
+// The laws that every crate cites are in specs/. The code has only the limits (RULES.md § 2), the refusals (§ 3), a widening cast and a list zeroed.
 #![tactic(auto)]
 
 ghost use Rattle.law.specs.Wide.{Widened};

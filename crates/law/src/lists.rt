@@ -5,7 +5,5 @@ ghost use Rattle.std.specs.Prelude.{◌≡◌, length, replicate};
 pub fn clear(list: &mut [u32])
     ensures { list.new ≡ replicate (length list.old) 0 }
 {
-    for i in 0..list.len() {
-        list[i] = 0;
-    }
+    list.fill(0);
 }

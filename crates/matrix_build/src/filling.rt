@@ -7,6 +7,8 @@ ghost use Rattle.matrix_lists.specs.Chain.{Chain};
 ghost use Rattle.matrix_build.specs.Swept.{Apart, Swept};
 ghost use Rattle.matrix_build.specs.Filled.{Filling, Filled, Unfilled, AllFilled};
 
+use matrix_pairs::pairs::Pairs;
+
 // What is left of a row's list, and the next slot.
 #[derive(Clone, Copy)]
 struct Rest {
@@ -14,11 +16,9 @@ struct Rest {
     slot: usize,
 }
 
-// Stores the numbers of row r's list that are in from..to. The list has none below from; count, r and from only say so.
+// Stores the numbers of row r's list that are in from..to. The list has none below from; r and from only say so.
 fn sweep(
-    n: usize,
-    count: usize,
-    pairs: &[u32],
+    pairs: &Pairs,
     links: &[u32],
     r: usize,
     from: usize,
@@ -27,32 +27,28 @@ fn sweep(
     at: usize,
     cols: &mut [u32],
 ) -> Rest
-    requires given { Given n count pairs.now }
-    requires from_le_to { (from ≤ to) × (to ≤ n) × (2 * count ≤ length links.now) }
-    requires chain { Chain n count pairs.now links.now r (Apart count pairs.now r) list from }
-    requires to_in_bounds { at + length (keep (apart pairs.now count r) from to) ≤ length cols.old }
-    ensures { Swept n count pairs.now links.now r from to at cols.old result.list result.slot cols.new }
+    requires given { Given pairs.now.n pairs.now.count pairs.now.list.now }
+    requires from_le_to { (from ≤ to) × (to ≤ pairs.now.n) × (2 * pairs.now.count ≤ length links.now) }
+    requires chain { Chain pairs.now.n pairs.now.count pairs.now.list.now links.now r (Apart pairs.now.count pairs.now.list.now r) list from }
+    requires to_in_bounds { at + length (keep (apart pairs.now.list.now pairs.now.count r) from to) ≤ length cols.old }
+    ensures { Swept pairs.now.n pairs.now.count pairs.now.list.now links.now r from to at cols.old result.list result.slot cols.new }
 {
     let mut rest = list;
     let mut slot = at;
-    let mut c = matrix_lists::lists::front(n, pairs, rest);
-    while c < to {
+    while let Some(c) = matrix_lists::lists::front(pairs.list, rest) {
+        if to <= c {
+            break;
+        }
         cols[slot] = c as u32;
         slot += 1;
         rest = law::wide(links[rest - 1]);
-        c = matrix_lists::lists::front(n, pairs, rest);
     }
-    Rest {
-        list: rest,
-        slot: slot,
-    }
+    Rest { list: rest, slot }
 }
 
 // Row r, from slot at on; the slot after it.
 fn fill_row(
-    n: usize,
-    count: usize,
-    pairs: &[u32],
+    pairs: &Pairs,
     links: &[u32],
     r: usize,
     at: usize,
@@ -60,39 +56,38 @@ fn fill_row(
     cols: &mut [u32],
     diagonal: &mut [u32],
 ) -> usize
-    requires given { Given n count pairs.now }
-    requires filling { Filling n count pairs.now links.now r at row_offsets.old cols.old diagonal.old }
-    ensures { Filled n (stored_by pairs.now count) r at row_offsets.old cols.old diagonal.old result
+    requires given { Given pairs.now.n pairs.now.count pairs.now.list.now }
+    requires filling { Filling pairs.now.n pairs.now.count pairs.now.list.now links.now r at row_offsets.old cols.old diagonal.old }
+    ensures { Filled pairs.now.n (stored_by pairs.now.list.now pairs.now.count) r at row_offsets.old cols.old diagonal.old result
         row_offsets.new cols.new diagonal.new }
 {
     row_offsets[r] = at as u32;
     let list = law::wide(diagonal[r]);
-    let low = sweep(n, count, pairs, links, r, 0, r, list, at, cols);
+    let low = sweep(pairs, links, r, 0, r, list, at, cols);
     let own = low.slot;
     diagonal[r] = own as u32;
     cols[own] = r as u32;
-    let high = sweep(n, count, pairs, links, r, r + 1, n, low.list, own + 1, cols);
+    let high = sweep(pairs, links, r, r + 1, pairs.n, low.list, own + 1, cols);
     high.slot
 }
 
+// A loop by r: a row is stored by its number.
 pub fn fill_rows(
-    n: usize,
-    count: usize,
-    pairs: &[u32],
+    pairs: &Pairs,
     links: &[u32],
     row_offsets: &mut [u32],
     cols: &mut [u32],
     diagonal: &mut [u32],
 ) -> usize
-    requires given { Given n count pairs.now }
-    requires unfilled { Unfilled n count pairs.now links.now row_offsets.old cols.old diagonal.old }
-    ensures { AllFilled n (stored_by pairs.now count) cols.old result row_offsets.new cols.new
+    requires given { Given pairs.now.n pairs.now.count pairs.now.list.now }
+    requires unfilled { Unfilled pairs.now.n pairs.now.count pairs.now.list.now links.now row_offsets.old cols.old diagonal.old }
+    ensures { AllFilled pairs.now.n (stored_by pairs.now.list.now pairs.now.count) cols.old result row_offsets.new cols.new
         diagonal.new }
 {
     let mut at = 0;
-    for r in 0..n {
-        at = fill_row(n, count, pairs, links, r, at, row_offsets, cols, diagonal);
+    for r in 0..pairs.n {
+        at = fill_row(pairs, links, r, at, row_offsets, cols, diagonal);
     }
-    row_offsets[n] = at as u32;
+    row_offsets[pairs.n] = at as u32;
     at
 }

@@ -2,6 +2,8 @@
 ghost use Rattle.std.specs.Prelude.{◌≡◌};
 ghost use Rattle.matrix_build.specs.Build.{Ready, made, built_of};
 
+use matrix_pairs::pairs::Pairs;
+
 pub fn build(
     n: usize,
     count: usize,
@@ -15,9 +17,14 @@ pub fn build(
     ensures { made result row_offsets.new cols.new diagonal.new work.new ≡ built_of n count
         pairs.now }
 {
-    matrix_lists::rows::list_rows(n, count, pairs, row_offsets, cols, diagonal, work);
+    let pairs = Pairs {
+        n,
+        count,
+        list: pairs,
+    };
+    matrix_lists::rows::list_rows(&pairs, row_offsets, cols, diagonal, work);
     law::lists::clear(cols);
-    let k = crate::filling::fill_rows(n, count, pairs, work, row_offsets, cols, diagonal);
+    let k = crate::filling::fill_rows(&pairs, work, row_offsets, cols, diagonal);
     law::lists::clear(work);
     k
 }

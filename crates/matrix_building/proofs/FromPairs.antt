@@ -1,6 +1,6 @@
 -- What follows of specs/FromPairs.antt: its theorems, apart from the definitions.
-use Rattle.std.specs.Prelude.{◌≡◌, true, List, Float}
-use Rattle.std.proofs.Common.{ap₂, arith}
+use Rattle.std.specs.Prelude.{◌≡◌, true, List, Float, Ok}
+use Rattle.std.proofs.Common.{ap₂}
 use Rattle.law.specs.Mix.{mix}
 use Rattle.law.proofs.Room.{enough_is}
 use Rattle.law.specs.Refusal.{verdict}
@@ -10,12 +10,12 @@ use Rattle.matrix_build.specs.Build.{room_of}
 use Rattle.matrix_values.specs.Blocks.{zero_block}
 use Rattle.matrix_building.specs.Building as building
 use Rattle.matrix_building.proofs.Building as building_lemmas
-use Rattle.matrix_building.specs.FromPairs.{In, Ready, in_order, left, refusals, values_room, work}
+use Rattle.matrix_building.specs.FromPairs.{In, Ready, left, refusals, values_room, work}
 
-pub ready : (i : In) → verdict (refusals i) ≡ 0 → Ready i
+pub ready : (i : In) → Ok tt ≡ verdict (refusals i) → Ready i
 unfolding refusals values_room
 ready i h =
-    let p = all_pass 1 (refusals i) (omega arith) (in_order i) h in
+    let p = all_pass (refusals i) h in
     record {
       pattern = building_lemmas.ready_of i.pattern p.0 p.1.0 p.1.1.0 p.1.1.1.1.0;
       in_blocks = (enough_is true (values_room i.pattern.n i.pattern.count i.blocks) p.1.1.1.0).0;

@@ -2,6 +2,8 @@
 use Prim.Native.Nat.{ℕ}
 use mathlib.Core.Path.{◌≡◌, refl}
 use mathlib.Core.List.{List, [], ◌∷◌}
+use Rattle.std.specs.Prelude.{Ok, Err}
+use Rattle.law.specs.declared.refusal.Refusal.TheVariants.{TooManyParticles, TooManyEntries, OutOfRange}
 use lib.ListN.{replicate}
 use Rattle.law.specs.Loop.{fold, over}
 use Rattle.law.specs.Every.{every, some}
@@ -12,7 +14,6 @@ use Rattle.law.specs.Promise.{outcome}
 use Rattle.matrix_shape.specs.Made.{row_of, cols_of, start_of, slot_of, starts_of, slots_of}
 use Rattle.matrix_pairs.specs.Pairs.{joined, stored_by}
 use Rattle.matrix_build.specs.Build.{built_of}
-use Rattle.matrix_building.specs.declared.Built.TheVariants.{Refused, Done}
 use Rattle.matrix_building.specs.Building.{In, given, left, lists_room, refusals, work, door}
 
 -- lists full of sevens, with two places more than a call with so many pairs needs
@@ -22,15 +23,15 @@ handed n count pairs room = given n count pairs (replicate room 7) (replicate ro
 record Readings : Type 0 where
   -- pairs 0-1, 1-0, 0-1, 1-1: starts 0 2 4, columns 0 1 0 1, diagonals 0 3; zeros past the columns; rests as they were
   repeats : outcome door (handed 2 4 (0 ∷ 1 ∷ 1 ∷ 0 ∷ 0 ∷ 1 ∷ 1 ∷ 1 ∷ []) 12)
-      ≡ left (Done 4) (0 ∷ 2 ∷ 4 ∷ 7 ∷ 7 ∷ 7 ∷ 7 ∷ 7 ∷ 7 ∷ 7 ∷ 7 ∷ 7 ∷ []) (0 ∷ 1 ∷ 0 ∷ 1 ∷ 0 ∷ 0 ∷ 0 ∷ 0 ∷ 0 ∷ 0 ∷ 7 ∷ 7 ∷ [])
+      ≡ left (Ok 4) (0 ∷ 2 ∷ 4 ∷ 7 ∷ 7 ∷ 7 ∷ 7 ∷ 7 ∷ 7 ∷ 7 ∷ 7 ∷ 7 ∷ []) (0 ∷ 1 ∷ 0 ∷ 1 ∷ 0 ∷ 0 ∷ 0 ∷ 0 ∷ 0 ∷ 0 ∷ 7 ∷ 7 ∷ [])
       (0 ∷ 3 ∷ 7 ∷ 7 ∷ 7 ∷ 7 ∷ 7 ∷ 7 ∷ 7 ∷ 7 ∷ 7 ∷ 7 ∷ []) (0 ∷ 0 ∷ 0 ∷ 0 ∷ 0 ∷ 0 ∷ 0 ∷ 0 ∷ 7 ∷ 7 ∷ 7 ∷ 7 ∷ [])
   -- pair 9-9 alone is ignored
-  ghost : outcome door (handed 2 1 (9 ∷ 9 ∷ []) 4) ≡ left (Done 2) (0 ∷ 1 ∷ 2 ∷ 7 ∷ []) (0 ∷ 1 ∷ 0 ∷ 0 ∷ []) (0 ∷ 1 ∷ 7 ∷ 7 ∷ []) (0 ∷ 0 ∷ 7 ∷ 7 ∷ [])
+  ghost : outcome door (handed 2 1 (9 ∷ 9 ∷ []) 4) ≡ left (Ok 2) (0 ∷ 1 ∷ 2 ∷ 7 ∷ []) (0 ∷ 1 ∷ 0 ∷ 0 ∷ []) (0 ∷ 1 ∷ 7 ∷ 7 ∷ []) (0 ∷ 0 ∷ 7 ∷ 7 ∷ [])
   -- pair 0-2 is refusal 4, and changes nothing
-  beyond : outcome door (handed 2 1 (0 ∷ 2 ∷ []) 4) ≡ left (Refused 4) (7 ∷ 7 ∷ 7 ∷ 7 ∷ []) (7 ∷ 7 ∷ 7 ∷ 7 ∷ []) (7 ∷ 7 ∷ 7 ∷ 7 ∷ []) (7 ∷ 7 ∷ 7 ∷ 7 ∷ [])
+  beyond : outcome door (handed 2 1 (0 ∷ 2 ∷ []) 4) ≡ left (Err OutOfRange) (7 ∷ 7 ∷ 7 ∷ 7 ∷ []) (7 ∷ 7 ∷ 7 ∷ 7 ∷ []) (7 ∷ 7 ∷ 7 ∷ 7 ∷ []) (7 ∷ 7 ∷ 7 ∷ 7 ∷ [])
   -- 1,025 particles and 4,097 pairs, whatever the lists
-  many : outcome door (given 1025 4097 [] [] [] [] []) ≡ left (Refused 1) [] [] [] []
-  pairs : outcome door (given 1024 4097 [] [] [] [] []) ≡ left (Refused 2) [] [] [] []
+  many : outcome door (given 1025 4097 [] [] [] [] []) ≡ left (Err TooManyParticles) [] [] [] []
+  pairs : outcome door (given 1024 4097 [] [] [] [] []) ≡ left (Err TooManyEntries) [] [] [] []
 
 readings : Readings
 unfolding handed outcome refusals work verdict enough lists_room every some over fold built_of stored_by joined starts_of slots_of cols_of start_of slot_of

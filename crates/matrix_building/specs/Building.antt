@@ -1,17 +1,16 @@
 -- THE DOOR `pattern_from_pairs`: the pattern of given pairs, without block values.
-use Rattle.std.specs.Prelude.{ℕ, ◌+◌, ◌*◌, ◌≤◌, ◌≡◌, true, List, [], ◌∷◌, ◌++◌, length, drop, leb}
+use Rattle.std.specs.Prelude.{ℕ, ◌+◌, ◌*◌, ◌≤◌, ◌≡◌, true, List, [], ◌∷◌, ◌++◌, length, drop, leb, Result, Ok, Err}
 use Rattle.std.proofs.Common.{arith}
 use Rattle.law.specs.Every.{every}
 use Rattle.law.specs.Limit.{particles, pairs as pairLimit}
-use Rattle.law.specs.Number.{too_many_particles, too_many_entries, short_buffer, out_of_range}
+use Rattle.law.specs.declared.refusal.Refusal.{Refusal}
+use Rattle.law.specs.declared.refusal.Refusal.TheVariants.{TooManyParticles, TooManyEntries, ShortBuffer, OutOfRange}
 use Rattle.law.specs.Room.{Room, enough}
 use Rattle.law.specs.Refusal.{Test, unless, Rising}
 use Rattle.law.specs.Promise.{Door}
 use Rattle.law.specs.Said.{Said}
 use Rattle.matrix_pairs.specs.Pairs.{pair_ok_at}
 use Rattle.matrix_build.specs.Build.{room_of, work_of, built_of}
-use Rattle.matrix_building.specs.declared.Built.{Built}
-use Rattle.matrix_building.specs.declared.Built.TheVariants.{Refused, Done}
 use Rattle.matrix_building.specs.Said.{built_said}
 
 pub record In : Type 0 where
@@ -24,7 +23,7 @@ pub record In : Type 0 where
   pub work : List ℕ
 
 pub record Out : Type 0 where
-  pub answer : Built
+  pub answer : Result ℕ Refusal
   pub said : Said
   pub row_offsets : List ℕ
   pub cols : List ℕ
@@ -42,7 +41,7 @@ given n count pairs starts cols diagonal work = record {
   work = work;
 }
 
-abbrev pub left : Built → List ℕ → List ℕ → List ℕ → List ℕ → Out
+abbrev pub left : Result ℕ Refusal → List ℕ → List ℕ → List ℕ → List ℕ → Out
 left r starts cols diagonal work = record { answer = r; said = built_said r; row_offsets = starts; cols = cols; diagonal = diagonal; work = work }
 
 -- what each list needs, counting every given pair, and what it has
@@ -58,10 +57,10 @@ lists_room i =
 -- THE REFUSALS
 unfoldable pub refusals : In → List Test
 refusals i =
-    unless too_many_particles (leb i.n particles)
-    ∷ unless too_many_entries (leb i.count pairLimit)
-    ∷ unless short_buffer (enough true (lists_room i))
-    ∷ unless out_of_range (every (pair_ok_at i.n i.pairs) 0 i.count)
+    unless TooManyParticles (leb i.n particles)
+    ∷ unless TooManyEntries (leb i.count pairLimit)
+    ∷ unless ShortBuffer (enough true (lists_room i))
+    ∷ unless OutOfRange (every (pair_ok_at i.n i.pairs) 0 i.count)
     ∷ []
 
 pub in_order : (i : In) → Rising 1 (refusals i)
@@ -72,12 +71,12 @@ in_order i = (omega arith, (omega arith, (omega arith, (omega arith, tt))))
 unfoldable pub work : In → Out
 work i =
     let b = built_of i.n i.count i.pairs in
-    left (Done b.blocks) (b.starts ++ drop (i.n + 1) i.row_offsets) (b.cols ++ drop (room_of i.n i.count) i.cols)
+    left (Ok b.blocks) (b.starts ++ drop (i.n + 1) i.row_offsets) (b.cols ++ drop (room_of i.n i.count) i.cols)
     (b.diagonal ++ drop i.n i.diagonal)
     (b.work ++ drop (work_of i.n i.count) i.work)
 
-abbrev pub refuse : ℕ → In → Out
-refuse k i = left (Refused k) i.row_offsets i.cols i.diagonal i.work
+abbrev pub refuse : Refusal → In → Out
+refuse k i = left (Err k) i.row_offsets i.cols i.diagonal i.work
 
 abbrev pub door : Door In Out
 door = record { tests = refusals; in_order = in_order; work = work; refuse = refuse }

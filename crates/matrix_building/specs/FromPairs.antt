@@ -4,7 +4,7 @@ use Rattle.std.proofs.Common.{arith}
 use Rattle.law.specs.Every.{every}
 use Rattle.law.specs.Limit.{particles, pairs as pairLimit}
 use Rattle.law.specs.Mix.{mix}
-use Rattle.law.specs.Number.{too_many_particles, too_many_entries, short_buffer, out_of_range}
+use Rattle.law.specs.declared.refusal.Refusal.TheVariants.{TooManyParticles, TooManyEntries, ShortBuffer, OutOfRange}
 use Rattle.law.specs.Room.{Room, enough}
 use Rattle.law.specs.Refusal.{Test, unless, Rising}
 use Rattle.law.specs.Promise.{Door}
@@ -35,11 +35,11 @@ values_room n count blocks = (4 * room_of n count, length blocks) ∷ []
 -- THE REFUSALS
 unfoldable pub refusals : In → List Test
 refusals i =
-    unless too_many_particles (leb i.pattern.n particles)
-    ∷ unless too_many_entries (leb i.pattern.count pairLimit)
-    ∷ unless short_buffer (enough true (building.lists_room i.pattern))
-    ∷ unless short_buffer (enough true (values_room i.pattern.n i.pattern.count i.blocks))
-    ∷ unless out_of_range (every (pair_ok_at i.pattern.n i.pattern.pairs) 0 i.pattern.count)
+    unless TooManyParticles (leb i.pattern.n particles)
+    ∷ unless TooManyEntries (leb i.pattern.count pairLimit)
+    ∷ unless ShortBuffer (enough true (building.lists_room i.pattern))
+    ∷ unless ShortBuffer (enough true (values_room i.pattern.n i.pattern.count i.blocks))
+    ∷ unless OutOfRange (every (pair_ok_at i.pattern.n i.pattern.pairs) 0 i.pattern.count)
     ∷ []
 
 pub in_order : (i : In) → Rising 1 (refusals i)

@@ -1,9 +1,9 @@
 -- WHAT THE TWO BUILDING CALLS SAY: a built pattern its number of blocks.
-use Rattle.std.specs.Prelude.{[], ◌∷◌}
+use Rattle.std.specs.Prelude.{ℕ, [], ◌∷◌, Result, Ok, Err}
+use Rattle.law.specs.declared.refusal.Refusal.{Refusal}
+use Rattle.law.specs.Number.{number}
 use Rattle.law.specs.Said.{Said, refused, carries}
-use Rattle.matrix_building.specs.declared.Built.{Built}
-use Rattle.matrix_building.specs.declared.Built.TheVariants as built
 
-abbrev pub built_said : Built → Said
-built_said (built.Refused k) = refused k
-built_said (built.Done blocks) = carries 0 (blocks ∷ []) []
+abbrev pub built_said : Result ℕ Refusal → Said
+built_said (Err k) = refused (number k)
+built_said (Ok blocks) = carries 0 (blocks ∷ []) []

@@ -1,6 +1,6 @@
 // The work behind the two building calls, on input that is known to be good.
+// Lists lent by `&mut` stay parameters: in a struct each clause would have to say that every field keeps its reference.
 ghost use Rattle.std.specs.Prelude.{◌≡◌};
-ghost use Rattle.matrix_building.specs.declared.Built.TheVariants.{Done};
 ghost use Rattle.matrix_building.specs.Building as building;
 ghost use Rattle.matrix_building.specs.FromPairs as frompairs;
 
@@ -15,7 +15,7 @@ pub fn build(
     work: &mut [u32],
 ) -> usize
     requires { building.Ready (building.given n count pairs.now row_offsets.old cols.old diagonal.old work.old) }
-    ensures { building.left (Done result) row_offsets.new cols.new diagonal.new work.new ≡ building.work
+    ensures { building.left (Ok result) row_offsets.new cols.new diagonal.new work.new ≡ building.work
         (building.given n count pairs.now row_offsets.old cols.old diagonal.old work.old) }
 {
     let k = 2 * count;
@@ -45,7 +45,7 @@ pub fn build_with_values(
     requires { frompairs.Ready
         (frompairs.given (building.given n count pairs.now row_offsets.old cols.old diagonal.old work.old) blocks.old) }
     ensures { frompairs.left
-        (building.left (Done result) row_offsets.new cols.new diagonal.new work.new)
+        (building.left (Ok result) row_offsets.new cols.new diagonal.new work.new)
         blocks.new ≡ frompairs.work
         (frompairs.given (building.given n count pairs.now row_offsets.old cols.old diagonal.old
         work.old) blocks.old) }

@@ -31,23 +31,23 @@ one_pattern_from_pairs = plainly pattern-from-pairs.ended _ (λ κs a p.
     of_door building.door _ _ (λ o. (o.answer, past 3 (o.row_offsets, (o.cols, (o.diagonal, (o.work, tt)))))) refl (λ k. refl) (λ w. refl))
 
 pub one_block_index : OneOutcome block-index.ended (λ M 𝓤. block-index.spec)
-one_block_index = plainly block-index.ended _ (λ κs a p. of_door (indexing.block_door _) _ _ (λ o. (o.answer, past 6 tt)) refl (λ k. refl) (λ w. refl))
+one_block_index = plainly block-index.ended _ (λ κs a p. of_door (indexing.block_door _) _ _ (λ o. (o.answer, past 3 tt)) refl (λ k. refl) (λ w. refl))
 
 pub one_diagonal_index : OneOutcome diagonal-index.ended (λ M 𝓤. diagonal-index.spec)
 one_diagonal_index = plainly diagonal-index.ended _ (λ κs a p.
-    of_door indexing.diagonal_door _ _ (λ o. (o.answer, past 5 tt)) refl (λ k. refl) (λ w. refl))
+    of_door indexing.diagonal_door _ _ (λ o. (o.answer, past 2 tt)) refl (λ k. refl) (λ w. refl))
 
 pub one_clear_values : OneOutcome clear-values.ended (λ M 𝓤. clear-values.spec)
 one_clear_values = plainly clear-values.ended _ (λ κs a p.
-    of_door clearing.door _ _ (λ o. (o.answer, past 4 (o.blocks, tt))) refl (λ k. refl) (λ w. refl))
+    of_door clearing.door _ _ (λ o. (o.answer, past 1 (o.blocks, tt))) refl (λ k. refl) (λ w. refl))
 
 pub one_mul : OneOutcome mul.ended (λ M 𝓤. mul.spec)
-one_mul = plainly mul.ended _ (λ κs a p. of_door multiplying.door _ _ (λ o. (o.answer, past 6 (o.out, tt))) refl (λ k. refl) (λ w. refl))
+one_mul = plainly mul.ended _ (λ κs a p. of_door multiplying.door _ _ (λ o. (o.answer, past 3 (o.out, tt))) refl (λ k. refl) (λ w. refl))
 
 pub one_make_dirichlet : OneOutcome make-dirichlet.ended (λ M 𝓤. make-dirichlet.spec)
 one_make_dirichlet = plainly make-dirichlet.ended _ (λ κs a p.
-    of_door pinning.door _ _ (λ o. (o.answer, past 5 (o.blocks, tt))) refl (λ k. refl) (λ w. refl))
+    of_door pinning.door _ _ (λ o. (o.answer, past 2 (o.blocks, tt))) refl (λ k. refl) (λ w. refl))
 
 pub one_make_dirichlet_marked : OneOutcome make-dirichlet-marked.ended (λ M 𝓤. make-dirichlet-marked.spec)
 one_make_dirichlet_marked = plainly make-dirichlet-marked.ended _ (λ κs a p.
-    of_door pinningmarked.door _ _ (λ o. (o.answer, past 5 (o.blocks, tt))) refl (λ k. refl) (λ w. refl))
+    of_door pinningmarked.door _ _ (λ o. (o.answer, past 2 (o.blocks, tt))) refl (λ k. refl) (λ w. refl))

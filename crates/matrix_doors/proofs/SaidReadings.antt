@@ -14,6 +14,7 @@ use Rattle.law.specs.Said.{refused, carries}
 use Rattle.matrix_shape.specs.Formed.{slot_ok, home_ok, row_ok, stored, mirrors_ok, starts_ok, well_formed}
 use Rattle.matrix_shape.specs.Given.{pattern_room, blocks_room, formed}
 use Rattle.matrix_shape.specs.Index.{index_of}
+use Rattle.matrix_shape.specs.Shape.{Shape, shape}
 use Rattle.matrix_doors.specs.Indexing as indexing
 use Rattle.matrix_doors.specs.Clearing as clearing
 use Rattle.matrix_doors.specs.Multiplying as multiplying
@@ -25,7 +26,11 @@ floats k = replicate k nan
 
 -- two particles that are joined, and a row of theirs
 asked : ℕ → indexing.In
-asked row = indexing.given 2 (0 ∷ 2 ∷ 4 ∷ []) (0 ∷ 1 ∷ 0 ∷ 1 ∷ []) (0 ∷ 3 ∷ []) row
+asked row = indexing.given (shape 2 (0 ∷ 2 ∷ 4 ∷ []) (0 ∷ 1 ∷ 0 ∷ 1 ∷ []) (0 ∷ 3 ∷ [])) row
+
+-- one particle, and what is lent as its diagonal's slot
+alone : ℕ → Shape
+alone slot = shape 1 (0 ∷ 1 ∷ []) (0 ∷ []) (slot ∷ [])
 
 record Readings : Type 0 where
   -- a slot says its place, and what only works that it is done; each refusal its number
@@ -33,17 +38,17 @@ record Readings : Type 0 where
   no_slot : (outcome (indexing.block_door 0) (asked 2)).said ≡ refused 4
   diagonal : (outcome indexing.diagonal_door (asked 1)).said ≡ carries 0 (3 ∷ []) []
   no_diagonal : (outcome indexing.diagonal_door (asked 2)).said ≡ refused 4
-  cleared : (outcome clearing.door (clearing.given 1 (0 ∷ 1 ∷ []) (0 ∷ []) (0 ∷ []) (floats 4))).said ≡ carries 0 [] []
-  not_cleared : (outcome clearing.door (clearing.given 1 (0 ∷ 1 ∷ []) (0 ∷ []) (0 ∷ []) (floats 3))).said ≡ refused 3
-  multiplied : (outcome multiplying.door (multiplying.given 1 (0 ∷ 1 ∷ []) (0 ∷ []) (0 ∷ []) (floats 4) (floats 2) (floats 2))).said ≡ carries 0 [] []
-  not_multiplied : (outcome multiplying.door (multiplying.given 1 (0 ∷ 1 ∷ []) (0 ∷ []) (1 ∷ []) (floats 4) (floats 2) (floats 2))).said ≡ refused 5
-  pinned : (outcome pinning.door (pinning.given 1 (0 ∷ 1 ∷ []) (0 ∷ []) (0 ∷ []) 0 (floats 4))).said ≡ carries 0 [] []
-  not_pinned : (outcome pinning.door (pinning.given 1 (0 ∷ 1 ∷ []) (0 ∷ []) (0 ∷ []) 1 (floats 4))).said ≡ refused 4
-  all_pinned : (outcome pinningmarked.door (pinningmarked.given 1 (0 ∷ 1 ∷ []) (0 ∷ []) (0 ∷ []) (1 ∷ []) (floats 4))).said ≡ carries 0 [] []
-  none_pinned : (outcome pinningmarked.door (pinningmarked.given 1 (0 ∷ 1 ∷ []) (0 ∷ []) (0 ∷ []) [] (floats 4))).said ≡ refused 3
+  cleared : (outcome clearing.door (clearing.given (alone 0) (floats 4))).said ≡ carries 0 [] []
+  not_cleared : (outcome clearing.door (clearing.given (alone 0) (floats 3))).said ≡ refused 3
+  multiplied : (outcome multiplying.door (multiplying.given (alone 0) (floats 4) (floats 2) (floats 2))).said ≡ carries 0 [] []
+  not_multiplied : (outcome multiplying.door (multiplying.given (alone 1) (floats 4) (floats 2) (floats 2))).said ≡ refused 5
+  pinned : (outcome pinning.door (pinning.given (alone 0) 0 (floats 4))).said ≡ carries 0 [] []
+  not_pinned : (outcome pinning.door (pinning.given (alone 0) 1 (floats 4))).said ≡ refused 4
+  all_pinned : (outcome pinningmarked.door (pinningmarked.given (alone 0) (1 ∷ []) (floats 4))).said ≡ carries 0 [] []
+  none_pinned : (outcome pinningmarked.door (pinningmarked.given (alone 0) [] (floats 4))).said ≡ refused 3
 
 readings : Readings
-unfolding asked outcome indexing.refusals clearing.refusals multiplying.refusals multiplying.values_room pinning.refusals pinningmarked.refusals
+unfolding asked alone outcome indexing.refusals clearing.refusals multiplying.refusals multiplying.values_room pinning.refusals pinningmarked.refusals
     pinningmarked.marked_room verdict enough pattern_room blocks_room formed well_formed starts_ok row_ok slot_ok home_ok mirrors_ok stored index_of find seek
     every some over fold
 readings = record {

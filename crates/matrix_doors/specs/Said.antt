@@ -1,15 +1,14 @@
 -- WHAT THE BLOCK MATRIX'S CALLS SAY: an asked slot its place. What a built pattern says stands in `matrix_building`.
-use Rattle.std.specs.Prelude.{[], ◌∷◌}
+use Rattle.std.specs.Prelude.{ℕ, [], ◌∷◌, Result, Ok, Err}
+use Rattle.law.specs.declared.refusal.Refusal.{Refusal}
+use Rattle.law.specs.Number.{number}
+use Rattle.law.specs.Refusal.{Verdict}
 use Rattle.law.specs.Said.{Said, refused, carries}
-use Rattle.matrix_doors.specs.declared.Found.{Found}
-use Rattle.matrix_doors.specs.declared.Found.TheVariants as found
-use Rattle.matrix_doors.specs.declared.Ran.{Ran}
-use Rattle.matrix_doors.specs.declared.Ran.TheVariants as ran
 
-abbrev pub found_said : Found → Said
-found_said (found.Refused k) = refused k
-found_said (found.Slot slot) = carries 0 (slot ∷ []) []
+abbrev pub found_said : Result ℕ Refusal → Said
+found_said (Err k) = refused (number k)
+found_said (Ok slot) = carries 0 (slot ∷ []) []
 
-abbrev pub ran_said : Ran → Said
-ran_said (ran.Refused k) = refused k
-ran_said ran.Done = carries 0 [] []
+abbrev pub ran_said : Verdict → Said
+ran_said (Err k) = refused (number k)
+ran_said (Ok _) = carries 0 [] []

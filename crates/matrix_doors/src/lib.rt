@@ -1,9 +1,11 @@
-// Block matrices over lent slices, soft_fem_sparse.rs's BlockMatrix. THE DOORS: each tests all that it is handed,
-// refuses by number or does the work. A pattern is its row offsets, columns and diagonal slots; its last row
-// offset is the block count. Values are four floats to a block, vectors two floats to a particle.
+// Block matrices over lent slices, soft_fem_sparse.rs's BlockMatrix. THE DOORS: each tests all that it is handed, and
+// refuses or does the work. A pattern's last row offset is the block count. Values are four floats to a block, vectors
+// two floats to a particle.
+// Lists lent by `&mut` stay parameters: in a struct each clause would have to say that every field keeps its reference.
 #![tactic(auto)]
 
 ghost use Rattle.law.specs.Promise.{Promise};
+ghost use Rattle.matrix_shape.specs.Shape.{lists};
 ghost use Rattle.matrix_building.specs.Building as building;
 ghost use Rattle.matrix_building.specs.FromPairs as frompairs;
 ghost use Rattle.matrix_doors.specs.Indexing as indexing;
@@ -12,24 +14,13 @@ ghost use Rattle.matrix_doors.specs.Multiplying as multiplying;
 ghost use Rattle.matrix_doors.specs.Pinning as pinning;
 ghost use Rattle.matrix_doors.specs.PinningMarked as pinningmarked;
 
-use matrix_building::Built;
+use law::refusal::Refusal;
+use matrix_shape::pattern::Pattern;
 
-pub mod inner;
 pub mod refuse;
 
-#[derive(Clone, Copy)]
-pub enum Found {
-    Refused(u8),
-    Slot(u32),
-}
-
-#[derive(Clone, Copy)]
-pub enum Ran {
-    Refused(u8),
-    Done,
-}
-
-// The pattern of the diagonal blocks and the pairs, in either order, with values that start zero.
+// The pattern of the diagonal blocks and the pairs, in either order, with values that start zero; the answer is the block count.
+#[tactic(auto, unfolding(law::specs::Promise::outcome))]
 pub fn from_pairs(
     n: usize,
     count: usize,
@@ -39,14 +30,14 @@ pub fn from_pairs(
     diagonal: &mut [u32],
     blocks: &mut [f32],
     work: &mut [u32],
-) -> Built
+) -> Result<usize, Refusal>
     ensures { Promise frompairs.door
         (frompairs.given (building.given n count pairs.now row_offsets.old cols.old diagonal.old
         work.old) blocks.old)
         (frompairs.left (building.left result row_offsets.new cols.new diagonal.new work.new)
         blocks.new) }
 {
-    let no = matrix_building::refuse::from_pairs(
+    matrix_building::refuse::from_pairs(
         n,
         count,
         pairs,
@@ -55,11 +46,8 @@ pub fn from_pairs(
         diagonal,
         blocks,
         work,
-    );
-    if no != 0 {
-        return Built::Refused(no);
-    }
-    let m = matrix_building::inner::build_with_values(
+    )?;
+    Ok(matrix_building::inner::build_with_values(
         n,
         count,
         pairs,
@@ -68,11 +56,11 @@ pub fn from_pairs(
         diagonal,
         blocks,
         work,
-    );
-    Built::Done(m)
+    ))
 }
 
 // The same without values.
+#[tactic(auto, unfolding(law::specs::Promise::outcome))]
 pub fn pattern_from_pairs(
     n: usize,
     count: usize,
@@ -81,139 +69,85 @@ pub fn pattern_from_pairs(
     cols: &mut [u32],
     diagonal: &mut [u32],
     work: &mut [u32],
-) -> Built
+) -> Result<usize, Refusal>
     ensures { Promise building.door
         (building.given n count pairs.now row_offsets.old cols.old diagonal.old work.old)
         (building.left result row_offsets.new cols.new diagonal.new work.new) }
 {
-    let no = matrix_building::refuse::building(n, count, pairs, row_offsets, cols, diagonal, work);
-    if no != 0 {
-        return Built::Refused(no);
-    }
-    let m = matrix_building::inner::build(n, count, pairs, row_offsets, cols, diagonal, work);
-    Built::Done(m)
+    matrix_building::refuse::building(n, count, pairs, row_offsets, cols, diagonal, work)?;
+    Ok(matrix_building::inner::build(n, count, pairs, row_offsets, cols, diagonal, work))
 }
 
 // The slot of block (row, col), or 4294967295 where it is not stored.
-pub fn block_index(
-    n: usize,
-    row_offsets: &[u32],
-    cols: &[u32],
-    diagonal: &[u32],
-    row: usize,
-    col: u32,
-) -> Found
+#[tactic(auto, unfolding(law::specs::Promise::outcome))]
+pub fn block_index(pattern: &Pattern, row: usize, col: u32) -> Result<u32, Refusal>
     ensures { Promise (indexing.block_door col)
-        (indexing.given n row_offsets.now cols.now diagonal.now row)
+        (indexing.given (lists pattern.now) row)
         (indexing.left result) }
 {
-    let no = refuse::row(n, row_offsets, cols, diagonal, row);
-    if no != 0 {
-        return Found::Refused(no);
-    }
-    Found::Slot(matrix_shape::index::block_index(row_offsets, cols, row, col))
+    refuse::row(pattern, row)?;
+    Ok(matrix_shape::index::block_index(pattern.row_offsets, pattern.cols, row, col))
 }
 
 // The slot of a row's diagonal block.
-pub fn diagonal_index(
-    n: usize,
-    row_offsets: &[u32],
-    cols: &[u32],
-    diagonal: &[u32],
-    row: usize,
-) -> Found
+#[tactic(auto, unfolding(law::specs::Promise::outcome))]
+pub fn diagonal_index(pattern: &Pattern, row: usize) -> Result<u32, Refusal>
     ensures { Promise indexing.diagonal_door
-        (indexing.given n row_offsets.now cols.now diagonal.now row)
+        (indexing.given (lists pattern.now) row)
         (indexing.left result) }
 {
-    let no = refuse::row(n, row_offsets, cols, diagonal, row);
-    if no != 0 {
-        return Found::Refused(no);
-    }
-    Found::Slot(diagonal[row])
+    refuse::row(pattern, row)?;
+    Ok(pattern.diagonal[row])
 }
 
 // Zeros in every block.
-pub fn clear_values(
-    n: usize,
-    row_offsets: &[u32],
-    cols: &[u32],
-    diagonal: &[u32],
-    blocks: &mut [f32],
-) -> Ran
+#[tactic(auto, unfolding(law::specs::Promise::outcome))]
+pub fn clear_values(pattern: &Pattern, blocks: &mut [f32]) -> Result<(), Refusal>
     ensures { Promise clearing.door
-        (clearing.given n row_offsets.now cols.now diagonal.now blocks.old)
+        (clearing.given (lists pattern.now) blocks.old)
         (clearing.left result blocks.new) }
 {
-    let no = refuse::clearing(n, row_offsets, cols, diagonal, blocks);
-    if no != 0 {
-        return Ran::Refused(no);
-    }
-    inner::clear_all(n, row_offsets, cols, diagonal, blocks);
-    Ran::Done
+    refuse::clearing(pattern, blocks)?;
+    matrix_values::inner::clear_values(pattern.slots(), blocks);
+    Ok(())
 }
 
 // out is the matrix times x.
-pub fn mul(
-    n: usize,
-    row_offsets: &[u32],
-    cols: &[u32],
-    diagonal: &[u32],
-    blocks: &[f32],
-    x: &[f32],
-    out: &mut [f32],
-) -> Ran
+#[tactic(auto, unfolding(law::specs::Promise::outcome))]
+pub fn mul(pattern: &Pattern, blocks: &[f32], x: &[f32], out: &mut [f32]) -> Result<(), Refusal>
     ensures { Promise multiplying.door
-        (multiplying.given n row_offsets.now cols.now diagonal.now blocks.now x.now
-        out.old)
+        (multiplying.given (lists pattern.now) blocks.now x.now out.old)
         (multiplying.left result out.new) }
 {
-    let no = refuse::multiplying(n, row_offsets, cols, diagonal, blocks, x, out);
-    if no != 0 {
-        return Ran::Refused(no);
-    }
-    matrix_values::inner::mul(n, row_offsets, cols, blocks, x, out);
-    Ran::Done
+    refuse::multiplying(pattern, blocks, x, out)?;
+    matrix_values::inner::mul(pattern, blocks, x, out);
+    Ok(())
 }
 
 // A pinned row: identity on its diagonal, zero in the rest of the row and in its mirrors.
-pub fn make_dirichlet(
-    n: usize,
-    row_offsets: &[u32],
-    cols: &[u32],
-    diagonal: &[u32],
-    row: usize,
-    blocks: &mut [f32],
-) -> Ran
+#[tactic(auto, unfolding(law::specs::Promise::outcome))]
+pub fn make_dirichlet(pattern: &Pattern, row: usize, blocks: &mut [f32]) -> Result<(), Refusal>
     ensures { Promise pinning.door
-        (pinning.given n row_offsets.now cols.now diagonal.now row blocks.old)
+        (pinning.given (lists pattern.now) row blocks.old)
         (pinning.left result blocks.new) }
 {
-    let no = refuse::pinning(n, row_offsets, cols, diagonal, row, blocks);
-    if no != 0 {
-        return Ran::Refused(no);
-    }
-    matrix_pinned::pinned::make_dirichlet(n, row_offsets, cols, diagonal, row, blocks);
-    Ran::Done
+    refuse::pinning(pattern, row, blocks)?;
+    matrix_pinned::pinned::make_dirichlet(pattern, row, blocks);
+    Ok(())
 }
 
 // Every marked row pinned, as one after the other. A mark is a byte, and zero means free.
+#[tactic(auto, unfolding(law::specs::Promise::outcome))]
 pub fn make_dirichlet_marked(
-    n: usize,
-    row_offsets: &[u32],
-    cols: &[u32],
-    diagonal: &[u32],
+    pattern: &Pattern,
     marks: &[u8],
     blocks: &mut [f32],
-) -> Ran
+) -> Result<(), Refusal>
     ensures { Promise pinningmarked.door
-        (pinningmarked.given n row_offsets.now cols.now diagonal.now marks.now blocks.old)
+        (pinningmarked.given (lists pattern.now) marks.now blocks.old)
         (pinningmarked.left result blocks.new) }
 {
-    let no = refuse::pinning_marked(n, row_offsets, cols, diagonal, marks, blocks);
-    if no != 0 {
-        return Ran::Refused(no);
-    }
-    matrix_pinned::marked::make_dirichlet_marked(n, row_offsets, cols, diagonal, marks, blocks);
-    Ran::Done
+    refuse::pinning_marked(pattern, marks, blocks)?;
+    matrix_pinned::marked::make_dirichlet_marked(pattern, marks, blocks);
+    Ok(())
 }

@@ -1,156 +1,89 @@
-// The numbers that calls are refused by. Tests run in phases, so that none reads past a list's end.
+// What calls are refused by. Tests run in phases, so that none reads past a list's end; each list is a call's own, in the order of the numbers.
+// One function for what they share would be no plainer: what differs stands between the shared tests.
 ghost use Rattle.std.specs.Prelude.{◌≡◌, true, ◌≤◌, ◌<◌, length};
 ghost use Rattle.law.specs.Limit.{particles};
 ghost use Rattle.law.specs.Room.{enough};
 ghost use Rattle.law.specs.Refusal.{verdict};
-ghost use Rattle.matrix_shape.specs.Given.{blocks_room};
+ghost use Rattle.matrix_shape.specs.Shape.{lists};
 ghost use Rattle.matrix_doors.specs.Indexing as indexing;
 ghost use Rattle.matrix_doors.specs.Clearing as clearing;
 ghost use Rattle.matrix_doors.specs.Multiplying as multiplying;
 ghost use Rattle.matrix_doors.specs.Pinning as pinning;
 ghost use Rattle.matrix_doors.specs.PinningMarked as pinningmarked;
 
+use law::refusal::{Refusal, ensure};
+use matrix_shape::pattern::Pattern;
+use matrix_test::given::pattern_formed;
+
 // For a call on one row of a pattern.
-pub fn row(n: usize, row_offsets: &[u32], cols: &[u32], diagonal: &[u32], row: usize) -> u8
-    ensures { result ≡ verdict (indexing.refusals (indexing.given n row_offsets.now cols.now diagonal.now row)) }
+#[tactic(auto, unfolding(law::specs::Refusal::verdict, crate::specs::Indexing::refusals), using(matrix_shape::specs::Given::held))]
+pub fn row(pattern: &Pattern, row: usize) -> Result<(), Refusal>
+    ensures { result ≡ verdict (indexing.refusals (indexing.given (lists pattern.now) row)) }
 {
-    if law::PARTICLES < n {
-        return law::refusal::TOO_MANY_PARTICLES;
-    }
-    if !matrix_test::given::pattern_room(n, row_offsets, cols, diagonal) {
-        return law::refusal::SHORT_BUFFER;
-    }
-    if n <= row {
-        return law::refusal::OUT_OF_RANGE;
-    }
-    if !matrix_test::given::pattern_formed(n, row_offsets, cols, diagonal) {
-        return law::refusal::BAD_PATTERN;
-    }
-    0
+    ensure(pattern.n <= law::PARTICLES, Refusal::TooManyParticles)?;
+    ensure(pattern.has_room(), Refusal::ShortBuffer)?;
+    ensure(row < pattern.n, Refusal::OutOfRange)?;
+    ensure(pattern_formed(pattern), Refusal::BadPattern)
 }
 
-// Whether the blocks' values are as many as the pattern says.
-pub fn blocks_room(n: usize, row_offsets: &[u32], blocks: &[f32]) -> bool
-    requires { n < length row_offsets.now }
-    ensures { result ≡ enough true (blocks_room n row_offsets.now blocks.now) }
+#[tactic(auto, unfolding(law::specs::Refusal::verdict, crate::specs::Clearing::refusals), using(matrix_shape::specs::Given::held))]
+pub fn clearing(pattern: &Pattern, blocks: &[f32]) -> Result<(), Refusal>
+    ensures { result ≡ verdict (clearing.refusals (clearing.given (lists pattern.now) blocks.now)) }
 {
-    4 * law::wide(row_offsets[n]) <= blocks.len()
+    ensure(pattern.n <= law::PARTICLES, Refusal::TooManyParticles)?;
+    ensure(pattern.has_room(), Refusal::ShortBuffer)?;
+    ensure(pattern.blocks_fit(blocks), Refusal::ShortBuffer)?;
+    ensure(pattern_formed(pattern), Refusal::BadPattern)
 }
 
-pub fn clearing(n: usize, row_offsets: &[u32], cols: &[u32], diagonal: &[u32], blocks: &[f32]) -> u8
+#[tactic(auto, unfolding(law::specs::Room::enough, crate::specs::Multiplying::values_room))]
+pub fn values_room(pattern: &Pattern, blocks: &[f32], x: &[f32], out: &[f32]) -> bool
+    requires { (pattern.now.n ≤ particles) × (pattern.now.n < length pattern.now.row_offsets.now) }
+    ensures { result ≡ enough true
+        (multiplying.values_room pattern.now.n pattern.now.row_offsets.now blocks.now x.now out.now) }
+{
+    let m = 2 * pattern.n;
+    (4 * pattern.slots() <= blocks.len()) & (m <= x.len()) & (m <= out.len())
+}
+
+#[tactic(auto, unfolding(law::specs::Refusal::verdict, crate::specs::Multiplying::refusals), using(matrix_shape::specs::Given::held))]
+pub fn multiplying(pattern: &Pattern, blocks: &[f32], x: &[f32], out: &[f32]) -> Result<(), Refusal>
     ensures { result ≡ verdict
-        (clearing.refusals (clearing.given n row_offsets.now cols.now diagonal.now blocks.now)) }
+        (multiplying.refusals (multiplying.given (lists pattern.now) blocks.now x.now out.now)) }
 {
-    if law::PARTICLES < n {
-        return law::refusal::TOO_MANY_PARTICLES;
-    }
-    if !matrix_test::given::pattern_room(n, row_offsets, cols, diagonal) {
-        return law::refusal::SHORT_BUFFER;
-    }
-    if !blocks_room(n, row_offsets, blocks) {
-        return law::refusal::SHORT_BUFFER;
-    }
-    if !matrix_test::given::pattern_formed(n, row_offsets, cols, diagonal) {
-        return law::refusal::BAD_PATTERN;
-    }
-    0
+    ensure(pattern.n <= law::PARTICLES, Refusal::TooManyParticles)?;
+    ensure(pattern.has_room(), Refusal::ShortBuffer)?;
+    ensure(values_room(pattern, blocks, x, out), Refusal::ShortBuffer)?;
+    ensure(pattern_formed(pattern), Refusal::BadPattern)
 }
 
-pub fn values_room(n: usize, row_offsets: &[u32], blocks: &[f32], x: &[f32], out: &[f32]) -> bool
-    requires { (n ≤ particles) × (n < length row_offsets.now) }
-    ensures { result ≡ enough true (multiplying.values_room n row_offsets.now blocks.now x.now out.now) }
+#[tactic(auto, unfolding(law::specs::Refusal::verdict, crate::specs::Pinning::refusals), using(matrix_shape::specs::Given::held))]
+pub fn pinning(pattern: &Pattern, row: usize, blocks: &[f32]) -> Result<(), Refusal>
+    ensures { result ≡ verdict (pinning.refusals (pinning.given (lists pattern.now) row blocks.now)) }
 {
-    let m = 2 * n;
-    (4 * law::wide(row_offsets[n]) <= blocks.len()) & (m <= x.len()) & (m <= out.len())
+    ensure(pattern.n <= law::PARTICLES, Refusal::TooManyParticles)?;
+    ensure(pattern.has_room(), Refusal::ShortBuffer)?;
+    ensure(pattern.blocks_fit(blocks), Refusal::ShortBuffer)?;
+    ensure(row < pattern.n, Refusal::OutOfRange)?;
+    ensure(pattern_formed(pattern), Refusal::BadPattern)
 }
 
-pub fn multiplying(
-    n: usize,
-    row_offsets: &[u32],
-    cols: &[u32],
-    diagonal: &[u32],
-    blocks: &[f32],
-    x: &[f32],
-    out: &[f32],
-) -> u8
+#[tactic(auto, unfolding(law::specs::Room::enough, crate::specs::PinningMarked::marked_room))]
+pub fn marked_room(pattern: &Pattern, marks: &[u8], blocks: &[f32]) -> bool
+    requires { pattern.now.n < length pattern.now.row_offsets.now }
+    ensures { result ≡ enough true
+        (pinningmarked.marked_room pattern.now.n pattern.now.row_offsets.now marks.now blocks.now) }
+{
+    (pattern.n <= marks.len()) & (4 * pattern.slots() <= blocks.len())
+}
+
+#[tactic(auto, unfolding(law::specs::Refusal::verdict, crate::specs::PinningMarked::refusals), using(matrix_shape::specs::Given::held))]
+pub fn pinning_marked(pattern: &Pattern, marks: &[u8], blocks: &[f32]) -> Result<(), Refusal>
     ensures { result ≡ verdict
-        (multiplying.refusals (multiplying.given n row_offsets.now cols.now diagonal.now blocks.now
-        x.now out.now)) }
+        (pinningmarked.refusals (pinningmarked.given (lists pattern.now) marks.now blocks.now)) }
 {
-    if law::PARTICLES < n {
-        return law::refusal::TOO_MANY_PARTICLES;
-    }
-    if !matrix_test::given::pattern_room(n, row_offsets, cols, diagonal) {
-        return law::refusal::SHORT_BUFFER;
-    }
-    if !values_room(n, row_offsets, blocks, x, out) {
-        return law::refusal::SHORT_BUFFER;
-    }
-    if !matrix_test::given::pattern_formed(n, row_offsets, cols, diagonal) {
-        return law::refusal::BAD_PATTERN;
-    }
-    0
-}
-
-pub fn pinning(
-    n: usize,
-    row_offsets: &[u32],
-    cols: &[u32],
-    diagonal: &[u32],
-    row: usize,
-    blocks: &[f32],
-) -> u8
-    ensures { result ≡ verdict
-        (pinning.refusals (pinning.given n row_offsets.now cols.now diagonal.now row blocks.now)) }
-{
-    if law::PARTICLES < n {
-        return law::refusal::TOO_MANY_PARTICLES;
-    }
-    if !matrix_test::given::pattern_room(n, row_offsets, cols, diagonal) {
-        return law::refusal::SHORT_BUFFER;
-    }
-    if !blocks_room(n, row_offsets, blocks) {
-        return law::refusal::SHORT_BUFFER;
-    }
-    if n <= row {
-        return law::refusal::OUT_OF_RANGE;
-    }
-    if !matrix_test::given::pattern_formed(n, row_offsets, cols, diagonal) {
-        return law::refusal::BAD_PATTERN;
-    }
-    0
-}
-
-pub fn marked_room(n: usize, row_offsets: &[u32], marks: &[u8], blocks: &[f32]) -> bool
-    requires { n < length row_offsets.now }
-    ensures { result ≡ enough true (pinningmarked.marked_room n row_offsets.now marks.now blocks.now) }
-{
-    (n <= marks.len()) & (4 * law::wide(row_offsets[n]) <= blocks.len())
-}
-
-pub fn pinning_marked(
-    n: usize,
-    row_offsets: &[u32],
-    cols: &[u32],
-    diagonal: &[u32],
-    marks: &[u8],
-    blocks: &[f32],
-) -> u8
-    ensures { result ≡ verdict
-        (pinningmarked.refusals (pinningmarked.given n row_offsets.now cols.now diagonal.now marks.now
-        blocks.now)) }
-{
-    if law::PARTICLES < n {
-        return law::refusal::TOO_MANY_PARTICLES;
-    }
-    if !matrix_test::given::pattern_room(n, row_offsets, cols, diagonal) {
-        return law::refusal::SHORT_BUFFER;
-    }
-    if !marked_room(n, row_offsets, marks, blocks) {
-        return law::refusal::SHORT_BUFFER;
-    }
-    if !matrix_test::given::pattern_formed(n, row_offsets, cols, diagonal) {
-        return law::refusal::BAD_PATTERN;
-    }
-    0
+    ensure(pattern.n <= law::PARTICLES, Refusal::TooManyParticles)?;
+    ensure(pattern.has_room(), Refusal::ShortBuffer)?;
+    ensure(marked_room(pattern, marks, blocks), Refusal::ShortBuffer)?;
+    ensure(pattern_formed(pattern), Refusal::BadPattern)
 }

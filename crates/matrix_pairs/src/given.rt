@@ -10,6 +10,7 @@ fn pair_ok(n: usize, a: u32, b: u32) -> bool
     (a == b) | ((law::wide(a) < n) & (law::wide(b) < n))
 }
 
+// A loop by i, and no `all`, which would stop at the first that is not: `&` alone makes a vector loop.
 pub fn pairs_ok(n: usize, count: usize, pairs: &[u32]) -> bool
     requires { 2 * count ≤ length pairs.now }
     ensures { result ≡ every (pair_ok_at n pairs.now) 0 count }

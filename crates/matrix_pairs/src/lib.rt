@@ -2,3 +2,4 @@
 #![tactic(auto)]
 
 pub mod given;
+pub mod pairs;

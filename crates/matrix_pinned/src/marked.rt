@@ -2,38 +2,26 @@
 ghost use Rattle.std.specs.Prelude.{◌≡◌, ◌<◌};
 ghost use Rattle.matrix_pinned.specs.Marked.{pin_step, pinned_marked, Reach};
 
+use crate::pinned;
+use matrix_shape::pattern::Pattern;
+
 // A row pinned if it is marked.
-fn pin_marked(
-    n: usize,
-    row_offsets: &[u32],
-    cols: &[u32],
-    diagonal: &[u32],
-    marks: &[u8],
-    row: usize,
-    blocks: &mut [f32],
-)
-    requires reach { Reach n row_offsets.now cols.now diagonal.now marks.now blocks.old }
-    requires row_lt_n { row < n }
-    ensures { blocks.new ≡ pin_step n row_offsets.now cols.now marks.now row blocks.old }
+fn pin_marked(pattern: &Pattern, marks: &[u8], row: usize, blocks: &mut [f32])
+    requires reach { Reach pattern.now.n pattern.now.row_offsets.now pattern.now.cols.now pattern.now.diagonal.now marks.now blocks.old }
+    requires row_lt_n { row < pattern.now.n }
+    ensures { blocks.new ≡ pin_step pattern.now.n pattern.now.row_offsets.now pattern.now.cols.now marks.now row blocks.old }
 {
     if marks[row] != 0 {
-        crate::pinned::make_dirichlet(n, row_offsets, cols, diagonal, row, blocks);
+        pinned::make_dirichlet(pattern, row, blocks);
     }
 }
 
-// The marked rows pinned, one after the other.
-pub fn make_dirichlet_marked(
-    n: usize,
-    row_offsets: &[u32],
-    cols: &[u32],
-    diagonal: &[u32],
-    marks: &[u8],
-    blocks: &mut [f32],
-)
-    requires { Reach n row_offsets.now cols.now diagonal.now marks.now blocks.old }
-    ensures { blocks.new ≡ pinned_marked n row_offsets.now cols.now marks.now blocks.old }
+// The marked rows pinned, one after the other. A loop by row: the row's number is handed on.
+pub fn make_dirichlet_marked(pattern: &Pattern, marks: &[u8], blocks: &mut [f32])
+    requires { Reach pattern.now.n pattern.now.row_offsets.now pattern.now.cols.now pattern.now.diagonal.now marks.now blocks.old }
+    ensures { blocks.new ≡ pinned_marked pattern.now.n pattern.now.row_offsets.now pattern.now.cols.now marks.now blocks.old }
 {
-    for row in 0..n {
-        pin_marked(n, row_offsets, cols, diagonal, marks, row, blocks);
+    for row in 0..pattern.n {
+        pin_marked(pattern, marks, row, blocks);
     }
 }

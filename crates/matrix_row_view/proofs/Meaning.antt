@@ -1,5 +1,5 @@
 -- What follows of specs/Meaning.antt: its theorems, apart from the definitions.
-use Rattle.std.specs.Prelude.{ℕ, ◌+◌, ◌-◌, ◌<◌, ◌≡◌, Bool, false, ◌&&◌, cond, List, ◌++◌, leb, length, take}
+use Rattle.std.specs.Prelude.{ℕ, ◌+◌, ◌-◌, ◌<◌, ◌≡◌, Bool, false, ◌&&◌, cond, List, ◌++◌, leb, length, take, Ok}
 use Rattle.std.proofs.Math.Path.{refl}
 use Rattle.std.proofs.Common.{sym, ap, ◌∙◌, arith, length-take-le, get_or-take, leb-true, le-leb, lt-ltb, le-ltb}
 use Rattle.std.proofs.Math.Bool.{true}
@@ -80,17 +80,17 @@ module _ (i : In) (r : Ready i) where
   }
 
 -- A LONGER LIST'S REST IS NEVER SHOWN: whatever stands behind the lists of an accepted call, its outcome is the same
-module _ (n : ℕ) (starts cols : List ℕ) (row : ℕ) (more rest : List ℕ) (accepted : verdict (refusals (given n starts cols row)) ≡ 0) where
+module _ (n : ℕ) (starts cols : List ℕ) (row : ℕ) (more rest : List ℕ) (accepted : verdict (refusals (given n starts cols row)) ≡ Ok tt) where
   abbrev longer : In
   longer = given n (starts ++ more) (cols ++ rest) row
 
   abbrev is_ready : Ready (i n starts cols row more rest accepted)
-  is_ready = ready (i n starts cols row more rest accepted) accepted
+  is_ready = ready (i n starts cols row more rest accepted) (sym accepted)
 
   last_same : at (starts ++ more) n ≡ at starts n
   last_same = get_or-append starts more 0 n is_ready.places
 
-  accepted_too : verdict (refusals longer) ≡ 0
+  accepted_too : verdict (refusals longer) ≡ Ok tt
   unfolding refusals rows_room
   accepted_too =
       let room = enough_of true (rows_room n (starts ++ more) (cols ++ rest)) refl
@@ -103,9 +103,9 @@ module _ (n : ℕ) (starts cols : List ℕ) (row : ℕ) (more rest : List ℕ) (
   own_cols_lem : own_cols longer ≡ own_cols (i n starts cols row more rest accepted)
   own_cols_lem = ap (λ (k : ℕ). take k (cols ++ rest)) last_same ∙ take-append-le (at starts n) cols rest is_ready.columns
 
-  same_work : {A : Type 0} (d : Door In A) → d.work longer ≡ d.work (i n starts cols row more rest accepted) → verdict (d.tests longer) ≡ 0 → verdict (d.tests (i n starts cols row more rest accepted)) ≡ 0
+  same_work : {A : Type 0} (d : Door In A) → d.work longer ≡ d.work (i n starts cols row more rest accepted) → verdict (d.tests longer) ≡ Ok tt → verdict (d.tests (i n starts cols row more rest accepted)) ≡ Ok tt
       → outcome d longer ≡ outcome d (i n starts cols row more rest accepted)
-  same_work d e g h = sym (accepts d longer 0 (sym g) refl (d.work longer) refl) ∙ e ∙ accepts d (i n starts cols row more rest accepted) 0 (sym h) refl (d.work (i n starts cols row more rest accepted)) refl
+  same_work d e g h = sym (accepts d longer (sym g) (d.work longer) refl) ∙ e ∙ accepts d (i n starts cols row more rest accepted) (sym h) (d.work (i n starts cols row more rest accepted)) refl
 
   pub rest_unseen : (outcome span_door longer ≡ outcome span_door (i n starts cols row more rest accepted)) × ((j : ℕ) → outcome (column_door j) longer ≡ outcome (column_door j) (i n starts cols row more rest accepted))
       × ((col : ℕ) → outcome (slot_door col) longer ≡ outcome (slot_door col) (i n starts cols row more rest accepted))

@@ -1,11 +1,10 @@
 -- WHAT THE DOORS SHOW, in words: a row whose bounds are in order and within the last row offset is its slots, with the columns that stand there;
 -- any other row has no block. What stands behind the pattern's own places is never shown.
-use Rattle.std.specs.Prelude.{ℕ, ◌+◌, ◌-◌, ◌≤◌, ◌<◌, ◌≡◌, List}
+use Rattle.std.specs.Prelude.{ℕ, ◌+◌, ◌-◌, ◌≤◌, ◌<◌, ◌≡◌, List, Ok}
 use Rattle.law.specs.Limit.{absent}
 use Rattle.law.specs.Refusal.{verdict}
 use Rattle.matrix_shape.specs.Rows.{at}
-use Rattle.matrix_row_view.specs.declared.Spanned.TheVariants.{Slots}
-use Rattle.matrix_row_view.specs.Showing.{In, given, slots_of, column_of, refusals}
+use Rattle.matrix_row_view.specs.Showing.{In, given, slots_from, slots_of, column_of, refusals}
 
 -- where the row asked for starts and ends, by the row offsets as they stand
 abbrev pub start : In → ℕ
@@ -19,13 +18,13 @@ abbrev pub Lies : In → Type 0
 Lies i = (start i ≤ end i) × (end i ≤ at i.row_offsets i.n)
 
 pub record Shows (i : In) : Type 0 where
-  pub slots : Lies i → slots_of i ≡ Slots (start i) (end i - start i)
+  pub slots : Lies i → slots_of i ≡ slots_from (start i) (end i - start i)
   pub column : Lies i → (j : ℕ) → j < end i - start i → column_of i j ≡ at i.cols (start i + j)
   pub past : Lies i → (j : ℕ) → end i - start i ≤ j → column_of i j ≡ absent
-  pub no_slots : (Lies i → ⊥) → slots_of i ≡ Slots 0 0
+  pub no_slots : (Lies i → ⊥) → slots_of i ≡ slots_from 0 0
   pub no_column : (Lies i → ⊥) → (j : ℕ) → column_of i j ≡ absent
 
 -- A LONGER LIST'S REST IS NEVER SHOWN: whatever stands behind the lists of an accepted call, its outcome is the same
-module _ (n : ℕ) (starts cols : List ℕ) (row : ℕ) (more rest : List ℕ) (accepted : verdict (refusals (given n starts cols row)) ≡ 0) where
+module _ (n : ℕ) (starts cols : List ℕ) (row : ℕ) (more rest : List ℕ) (accepted : verdict (refusals (given n starts cols row)) ≡ Ok tt) where
   abbrev pub i : In
   i = given n starts cols row

@@ -1,21 +1,18 @@
 -- WHAT THE ROW VIEW'S CALLS SAY: a row its first slot and how many blocks it has, a block its column or its slot.
-use Rattle.std.specs.Prelude.{[], ◌∷◌}
+use Rattle.std.specs.Prelude.{ℕ, [], ◌∷◌, Result, Ok, Err}
+use Rattle.law.specs.declared.refusal.Refusal.{Refusal}
+use Rattle.law.specs.Number.{number}
 use Rattle.law.specs.Said.{Said, refused, carries}
-use Rattle.matrix_row_view.specs.declared.Spanned.{Spanned}
-use Rattle.matrix_row_view.specs.declared.Spanned.TheVariants as spanned
-use Rattle.matrix_row_view.specs.declared.Seen.{Seen}
-use Rattle.matrix_row_view.specs.declared.Seen.TheVariants as seen
-use Rattle.matrix_row_view.specs.declared.Placed.{Placed}
-use Rattle.matrix_row_view.specs.declared.Placed.TheVariants as placed
+use Rattle.matrix_row_view.specs.declared.Slots.{Slots}
 
-abbrev pub spanned_said : Spanned → Said
-spanned_said (spanned.Refused k) = refused k
-spanned_said (spanned.Slots first len) = carries 0 (first ∷ len ∷ []) []
+abbrev pub spanned_said : Result Slots Refusal → Said
+spanned_said (Err k) = refused (number k)
+spanned_said (Ok slots) = carries 0 (slots.first ∷ slots.len ∷ []) []
 
-abbrev pub seen_said : Seen → Said
-seen_said (seen.Refused k) = refused k
-seen_said (seen.Col col) = carries 0 (col ∷ []) []
+abbrev pub seen_said : Result ℕ Refusal → Said
+seen_said (Err k) = refused (number k)
+seen_said (Ok col) = carries 0 (col ∷ []) []
 
-abbrev pub placed_said : Placed → Said
-placed_said (placed.Refused k) = refused k
-placed_said (placed.Slot slot) = carries 0 (slot ∷ []) []
+abbrev pub placed_said : Result ℕ Refusal → Said
+placed_said (Err k) = refused (number k)
+placed_said (Ok slot) = carries 0 (slot ∷ []) []

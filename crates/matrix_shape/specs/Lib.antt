@@ -6,3 +6,4 @@ pub mod Index
 pub mod Halving
 pub mod Search
 pub mod Given
+pub mod Shape

@@ -7,8 +7,10 @@ ghost use Rattle.matrix_shape.specs.Rows.{at, Held};
 ghost use Rattle.matrix_shape.specs.Phases.{Spread};
 ghost use Rattle.matrix_walk.specs.Cursors.{walk_ok};
 
+use matrix_shape::pattern::Pattern;
 use matrix_walk::rows;
 
+// A loop by r, and no `all`, which would stop at the first that falls: `&` alone makes a vector loop.
 fn rises(n: usize, row_offsets: &[u32]) -> bool
     requires { n < length row_offsets.now }
     ensures { result ≡ every (rise_ok (at row_offsets.now)) 0 n }
@@ -27,33 +29,26 @@ fn starts_ok(n: usize, m: usize, row_offsets: &[u32]) -> bool
     (row_offsets[0] == 0) & rises(n, row_offsets) & (law::wide(row_offsets[n]) == m)
 }
 
-// The walk of a small pattern. An array of 1,024 cursors would take longer to clear than such a walk.
-fn walk_few(n: usize, m: usize, row_offsets: &[u32], cols: &[u32], diagonal: &[u32]) -> bool
-    requires { (n ≤ 64) × Spread n row_offsets.now cols.now diagonal.now × (m ≡ at row_offsets.now n) }
-    ensures { result ≡ walk_ok n m (at row_offsets.now) (at cols.now) (at diagonal.now) }
+// The walk of a pattern of up to N rows, whose cursors stand in an array.
+fn walk_in<const N: usize>(pattern: &Pattern) -> bool
+    requires { (pattern.now.n ≤ N) × (N ≤ particles) × Spread pattern.now.n pattern.now.row_offsets.now pattern.now.cols.now pattern.now.diagonal.now }
+    ensures { result ≡ walk_ok pattern.now.n (at pattern.now.row_offsets.now pattern.now.n) (at pattern.now.row_offsets.now) (at pattern.now.cols.now) (at pattern.now.diagonal.now) }
 {
-    let mut next = [0u32; 64];
-    rows::walk_ok(n, m, row_offsets, cols, diagonal, &mut next)
+    let mut next = [0u32; N];
+    rows::walk_ok(pattern, &mut next)
 }
 
-// The walk of any pattern.
-fn walk_all(n: usize, m: usize, row_offsets: &[u32], cols: &[u32], diagonal: &[u32]) -> bool
-    requires { (n ≤ particles) × Spread n row_offsets.now cols.now diagonal.now × (m ≡ at row_offsets.now n) }
-    ensures { result ≡ walk_ok n m (at row_offsets.now) (at cols.now) (at diagonal.now) }
+// Whether the pattern is well formed and has m blocks. An array of 1,024 cursors would take longer to clear than a small pattern's walk.
+pub fn well_formed(pattern: &Pattern, m: usize) -> bool
+    requires { (pattern.now.n ≤ particles) × Held pattern.now.n m pattern.now.row_offsets.now pattern.now.cols.now pattern.now.diagonal.now }
+    ensures { result ≡ well_formed pattern.now.n m (at pattern.now.row_offsets.now) (at pattern.now.cols.now) (at pattern.now.diagonal.now) }
 {
-    let mut next = [0u32; 1024];
-    rows::walk_ok(n, m, row_offsets, cols, diagonal, &mut next)
-}
-
-pub fn well_formed(n: usize, m: usize, row_offsets: &[u32], cols: &[u32], diagonal: &[u32]) -> bool
-    requires { (n ≤ particles) × Held n m row_offsets.now cols.now diagonal.now }
-    ensures { result ≡ well_formed n m (at row_offsets.now) (at cols.now) (at diagonal.now) }
-{
-    if !starts_ok(n, m, row_offsets) {
+    if !starts_ok(pattern.n, m, pattern.row_offsets) {
         return false;
     }
-    if n <= 64 {
-        return walk_few(n, m, row_offsets, cols, diagonal);
+    if pattern.n <= 64 {
+        walk_in::<64>(pattern)
+    } else {
+        walk_in::<1024>(pattern)
     }
-    walk_all(n, m, row_offsets, cols, diagonal)
 }

@@ -1,28 +1,16 @@
-// A pattern as a call is handed it: whether its lists have room, and whether it is well formed.
-ghost use Rattle.std.specs.Prelude.{◌≡◌, true, ◌≤◌};
+// A pattern as a call is handed it: whether it is well formed, once its lists have room.
+ghost use Rattle.std.specs.Prelude.{◌≡◌, ◌≤◌};
 ghost use Rattle.law.specs.Limit.{particles};
-ghost use Rattle.law.specs.Room.{enough};
-ghost use Rattle.matrix_shape.specs.Rows.{at, Held};
-ghost use Rattle.matrix_shape.specs.Given.{pattern_room, formed};
+ghost use Rattle.matrix_shape.specs.Shape.{HasPlaces, is_formed, lists};
 
 use crate::formed;
+use matrix_shape::pattern::Pattern;
 
-// Whether the pattern's lists are as long as its numbers say.
-pub fn pattern_room(n: usize, row_offsets: &[u32], cols: &[u32], diagonal: &[u32]) -> bool
-    requires { n ≤ particles }
-    ensures { result ≡ enough true (pattern_room n row_offsets.now cols.now diagonal.now) }
+#[tactic(auto, unfolding(matrix_shape::specs::Given::formed))]
+pub fn pattern_formed(pattern: &Pattern) -> bool
+    requires few { pattern.now.n ≤ particles }
+    requires held { HasPlaces (lists pattern.now) }
+    ensures { result ≡ is_formed (lists pattern.now) }
 {
-    if row_offsets.len() < n + 1 {
-        return false;
-    }
-    (law::wide(row_offsets[n]) <= cols.len()) & (n <= diagonal.len())
-}
-
-// Whether the pattern is well formed, once its lists have room.
-pub fn pattern_formed(n: usize, row_offsets: &[u32], cols: &[u32], diagonal: &[u32]) -> bool
-    requires { (n ≤ particles) × Held n (at row_offsets.now n) row_offsets.now cols.now diagonal.now }
-    ensures { result ≡ formed n row_offsets.now cols.now diagonal.now }
-{
-    let m = law::wide(row_offsets[n]);
-    formed::well_formed(n, m, row_offsets, cols, diagonal)
+    formed::well_formed(pattern, pattern.slots())
 }

@@ -6,6 +6,7 @@ ghost use Rattle.matrix_shape.specs.Rows.{at, Rows};
 ghost use Rattle.matrix_values.specs.Product.{slot_step, row_sum, product_at, RowReach};
 ghost use Rattle.matrix_values.specs.Blocks.{zero_block};
 
+use matrix_shape::pattern::Pattern;
 use plane::Vector;
 
 // A row's sum and one slot more: its block times the vector's part that its column names.
@@ -23,7 +24,7 @@ fn add_slot(cols: &[u32], blocks: &[f32], x: &[f32], k: usize, sum: Vector) -> V
     )
 }
 
-// The sum over the slots a..b, from (+0.0, +0.0).
+// The sum over the slots a..b, from (+0.0, +0.0). A loop by k: each slot is a place of two lists, and a fold's closure would need both clauses again.
 fn row_sum(cols: &[u32], blocks: &[f32], x: &[f32], a: usize, b: usize) -> Vector
     requires a_le_b { a ≤ b }
     requires row_reach { RowReach cols.now blocks.now x.now a b }
@@ -37,18 +38,18 @@ fn row_sum(cols: &[u32], blocks: &[f32], x: &[f32], a: usize, b: usize) -> Vecto
     sum
 }
 
-// The matrix times x. A row ends where the next one starts.
-pub fn mul(n: usize, row_offsets: &[u32], cols: &[u32], blocks: &[f32], x: &[f32], out: &mut [f32])
-    requires rows { Rows n row_offsets.now cols.now }
-    requires n_in_bounds { (4 * at row_offsets.now n ≤ length blocks.now) × (2 * n ≤ length x.now) × (2 * n ≤ length out.old) }
-    ensures { out.new ≡ mix 2 n
-        (product_at row_offsets.now cols.now blocks.now x.now)
+// The matrix times x. A row ends where the next one starts. A loop by r: `out` is written two places at a time.
+pub fn mul(pattern: &Pattern, blocks: &[f32], x: &[f32], out: &mut [f32])
+    requires rows { Rows pattern.now.n pattern.now.row_offsets.now pattern.now.cols.now }
+    requires n_in_bounds { (4 * at pattern.now.row_offsets.now pattern.now.n ≤ length blocks.now) × (2 * pattern.now.n ≤ length x.now) × (2 * pattern.now.n ≤ length out.old) }
+    ensures { out.new ≡ mix 2 pattern.now.n
+        (product_at pattern.now.row_offsets.now pattern.now.cols.now blocks.now x.now)
         out.old }
 {
-    let mut start = law::wide(row_offsets[0]);
-    for r in 0..n {
-        let end = law::wide(row_offsets[r + 1]);
-        vectors::inner::set_vector(out, r, row_sum(cols, blocks, x, start, end));
+    let mut start = law::wide(pattern.row_offsets[0]);
+    for r in 0..pattern.n {
+        let end = law::wide(pattern.row_offsets[r + 1]);
+        vectors::inner::set_vector(out, r, row_sum(pattern.cols, blocks, x, start, end));
         start = end;
     }
 }
@@ -58,7 +59,5 @@ pub fn clear_values(m: usize, blocks: &mut [f32])
     requires { 4 * m ≤ length blocks.old }
     ensures { blocks.new ≡ mix 4 m (λ k. flat zero_block) blocks.old }
 {
-    for k in 0..m {
-        vectors::inner::set_block(blocks, k, [[0.0, 0.0], [0.0, 0.0]]);
-    }
+    blocks[..4 * m].fill(0.0);
 }

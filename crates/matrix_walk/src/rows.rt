@@ -7,6 +7,8 @@ ghost use Rattle.matrix_shape.specs.Rows.{at};
 ghost use Rattle.matrix_walk.specs.Cursors.{meet_ok, end_ok, walk_ok};
 ghost use Rattle.matrix_walk.specs.Walk.{Lent, Lows, Paired, Lined};
 
+use matrix_shape::pattern::Pattern;
+
 // Slot k is one of a..b and has the column r.
 fn home_ok(cols: &[u32], a: usize, b: usize, k: usize, r: usize) -> bool
     requires { b ≤ length cols.now }
@@ -39,9 +41,7 @@ fn lower_ok(m: usize, cols: &[u32], a: usize, b: usize, r: usize, next: &mut [u3
     ensures { Paired m cols.now a b r next.old next.new result }
 {
     let mut ceiling = r;
-    let mut k = b;
-    while a < k {
-        k = k - 1;
+    for k in (a..b).rev() {
         let q = law::wide(cols[k]);
         if ceiling <= q {
             return false;
@@ -56,25 +56,20 @@ fn lower_ok(m: usize, cols: &[u32], a: usize, b: usize, r: usize, next: &mut [u3
     true
 }
 
-fn lines_ok(
-    n: usize,
-    m: usize,
-    row_offsets: &[u32],
-    cols: &[u32],
-    diagonal: &[u32],
-    next: &mut [u32],
-) -> bool
-    requires { Lent n m row_offsets.now cols.now diagonal.now next.old }
-    ensures { Lined n m row_offsets.now cols.now diagonal.now next.new result }
+// The rows up to the first that fails. A loop by r: a row has its number, two starts and a cursor.
+fn lines_ok(pattern: &Pattern, next: &mut [u32]) -> bool
+    requires { Lent pattern.now.n (at pattern.now.row_offsets.now pattern.now.n) pattern.now.row_offsets.now pattern.now.cols.now pattern.now.diagonal.now next.old }
+    ensures { Lined pattern.now.n (at pattern.now.row_offsets.now pattern.now.n) pattern.now.row_offsets.now pattern.now.cols.now pattern.now.diagonal.now next.new result }
 {
-    for r in 0..n {
-        let a = law::wide(row_offsets[r]);
-        let b = law::wide(row_offsets[r + 1]);
-        let k = law::wide(diagonal[r]);
-        if !home_ok(cols, a, b, k, r) {
+    let m = pattern.slots();
+    for r in 0..pattern.n {
+        let a = law::wide(pattern.row_offsets[r]);
+        let b = law::wide(pattern.row_offsets[r + 1]);
+        let k = law::wide(pattern.diagonal[r]);
+        if !home_ok(pattern.cols, a, b, k, r) {
             return false;
         }
-        if !lower_ok(m, cols, a, k, r, next) {
+        if !lower_ok(m, pattern.cols, a, k, r, next) {
             return false;
         }
         next[r] = (k + 1) as u32;
@@ -82,32 +77,22 @@ fn lines_ok(
     true
 }
 
-// Every cursor has come to its row's end.
+// Every cursor has come to its row's end. No `all`, which would stop at the first that has not: `&` alone makes a vector loop.
 fn ends_ok(n: usize, row_offsets: &[u32], next: &[u32]) -> bool
     requires { (n < length row_offsets.now) × (n ≤ length next.now) }
     ensures { result ≡ every (end_ok (at next.now) (at row_offsets.now)) 0 n }
 {
     let mut ok = true;
-    for r in 0..n {
-        ok = ok & (next[r] == row_offsets[r + 1]);
+    for (cursor, end) in next[..n].iter().zip(&row_offsets[1..n + 1]) {
+        ok = ok & (*cursor == *end);
     }
     ok
 }
 
 // Whether rows and mirrors are as they are to be, once the row starts are. `next` lends the cursors a place.
-pub fn walk_ok(
-    n: usize,
-    m: usize,
-    row_offsets: &[u32],
-    cols: &[u32],
-    diagonal: &[u32],
-    next: &mut [u32],
-) -> bool
-    requires { Lent n m row_offsets.now cols.now diagonal.now next.old }
-    ensures { result ≡ walk_ok n m (at row_offsets.now) (at cols.now) (at diagonal.now) }
+pub fn walk_ok(pattern: &Pattern, next: &mut [u32]) -> bool
+    requires { Lent pattern.now.n (at pattern.now.row_offsets.now pattern.now.n) pattern.now.row_offsets.now pattern.now.cols.now pattern.now.diagonal.now next.old }
+    ensures { result ≡ walk_ok pattern.now.n (at pattern.now.row_offsets.now pattern.now.n) (at pattern.now.row_offsets.now) (at pattern.now.cols.now) (at pattern.now.diagonal.now) }
 {
-    if !lines_ok(n, m, row_offsets, cols, diagonal, next) {
-        return false;
-    }
-    ends_ok(n, row_offsets, next)
+    lines_ok(pattern, next) && ends_ok(pattern.n, pattern.row_offsets, next)
 }

@@ -1,11 +1,11 @@
--- The table of the degrees, and the reversed copy.
+-- The table of the degrees.
 use Prim.Native.Nat.{ℕ, zero, suc, ◌-◌, ◌≤◌, ◌<◌}
 use native.Mathlib.Omega.{arith}
 use mathlib.Core.Path.{◌≡◌, refl, sym, ap, ◌∙◌, subst}
 use mathlib.Core.Logic.{◌⊎◌, inl, inr}
 use mathlib.Core.Bool.{Bool, true, false, not}
-use mathlib.Core.List.{List, [], ◌∷◌, ◌++◌, reverse}
-use lib.ListN.{length, get_or, take, drop, set, length-append, get_or-append, get_or-eq_default, length-reverse}
+use mathlib.Core.List.{List, [], ◌∷◌, ◌++◌}
+use lib.ListN.{length, get_or, length-append, get_or-append, get_or-eq_default}
 use lib.Seq.{slice, length-slice, take-suc, length-take-le, drop-nil}
 use lib.Dec.{eqb}
 use borrow.Author.Tests.{eqb-true, eqb-false}
@@ -13,10 +13,9 @@ use Rattle.law.specs.Truth.{below_or}
 use Rattle.order_definition.specs.Order.{passing, cons_if, row, neighbours, degree}
 use Rattle.order_definition.specs.Tight.{Tight}
 use Rattle.order_definition.specs.Searches.{TableOf, degrees_to}
-use Rattle.order_definition.proofs.At.{at_nil, get_d_at, at_get_or, In, at_reverse}
+use Rattle.order_definition.proofs.At.{at_nil, In}
 use Rattle.order_definition.proofs.Pigeon.{Distinct, distinct_head, distinct_tail, in_cons, in_head, in_tail}
 use Rattle.order_definition.proofs.Rows.{row_distinct, row_fits, stored_row}
-use Rattle.order_definition.proofs.Filling.{store_next}
 
 -- ---- a distinct list loses one
 
@@ -81,19 +80,3 @@ degrees_table n starts cols degrees tight e = record {
     go : (v : ℕ) → (v < n) ⊎ (n ≤ v) → get_or (degrees_to starts n) v 0 ≡ degree (neighbours starts cols) v
     go v (inr le) = get_or-eq_default (degrees_to starts n) 0 (omega (arith, length_degrees starts n)) ∙ sym (outer n starts cols tight v le)
     go v (inl lt) = degrees_at starts n v lt ∙ inner n starts cols tight v lt
-
-pub degrees_store : (starts b : List ℕ) (i : ℕ) → i < length b → set (degrees_to starts i ++ drop i b) i (get_or starts (suc i) 0 - get_or starts i 0 - 1)
-    ≡ degrees_to starts (suc i) ++ drop (suc i) b
-degrees_store starts b i lt = store_next (degrees_to starts i) b i _ (length_degrees starts i) lt
-
--- ---- the reversed copy
-
-pub reverse_store : (s b : List ℕ) (i : ℕ) → i < length b → length s ≡ length b → set (take i (reverse s) ++ drop i b) i (get_or s (length s - 1 - i) 0)
-    ≡ take (suc i) (reverse s) ++ drop (suc i) b
-reverse_store s b i lt e =
-    let r = reverse s in
-    let lr = length-reverse s in
-    let x : get_or s (length s - 1 - i) 0 ≡ get_or r i 0 = sym (at_get_or 0 (at_reverse (get_d_at s (length s - 1 - i) 0 (omega arith)) i (omega arith))) in
-    ap (λ (k : ℕ). set (take i r ++ drop i b) i k) x
-    ∙ store_next (take i r) b i (get_or r i 0) (length-take-le i r (omega arith)) lt
-    ∙ ap {B = List ℕ} (λ t. t ++ drop (suc i) b) (sym (take-suc r i 0 (omega arith)))

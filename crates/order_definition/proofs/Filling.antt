@@ -1,25 +1,15 @@
 -- The laws of the loops that fill a list from a row.
-use Prim.Native.Nat.{ℕ, zero, suc, ◌+◌, ◌-◌, ◌≤◌, ◌<◌, zero-le}
+use Prim.Native.Nat.{ℕ, suc, ◌+◌, ◌≤◌, ◌<◌}
 use native.Mathlib.Omega.{arith}
-use native.Mathlib.Nat.{le_of_suc-le-suc, not-suc-le-zero, add-zero, add-suc}
-use mathlib.Core.Path.{◌≡◌, refl, sym, ap, ◌∙◌, subst}
+use native.Mathlib.Numerals.{add-one}
+use mathlib.Core.Path.{◌≡◌, refl, sym, ap, ◌∙◌}
 use mathlib.Core.Bool.{Bool, true, false, not, ◌&&◌}
 use mathlib.Core.List.{List, [], ◌∷◌, ◌++◌, append_assoc, append-nil}
-use lib.ListN.{length, get_or, take, drop, set, length-append, length-set}
-use lib.Seq.{slice, slice_empty, set_at, drop-cons, length-take-le, take-suc}
+use lib.ListN.{length, get_or, take, drop, set, length-append, length-set, take-append-drop}
+use lib.Seq.{set_at, drop-cons, length-take-le, take-suc, take_all}
 use lib.Dec.{eqb}
-use Rattle.order_definition.specs.Order.{passing, cons_if, row, neighbours}
+use Rattle.order_definition.specs.Order.{passing, cons_if}
 use Rattle.order_definition.specs.Marks.{unmarked, mark_all, open_of}
-
--- a part with one more at its end
-pub slice_snoc : {A : Type 0} (a k : ℕ) (l : List A) (d : A) → a ≤ k → k < length l → slice a (suc k) l ≡ slice a k l ++ (get_or l k d ∷ [])
-slice_snoc zero zero [] d h lt = absurd (not-suc-le-zero lt)
-slice_snoc zero zero (x ∷ l) d h lt = refl
-slice_snoc (suc a) k [] d h lt = absurd (not-suc-le-zero lt)
-slice_snoc zero (suc k) [] d h lt = absurd (not-suc-le-zero lt)
-slice_snoc {A} zero (suc k) (x ∷ l) d h lt = ap {B = List A} (λ t. x ∷ t) (slice_snoc zero k l d zero-le (le_of_suc-le-suc lt))
-slice_snoc (suc a) zero (x ∷ l) d h lt = absurd (not-suc-le-zero h)
-slice_snoc (suc a) (suc k) (x ∷ l) d h lt = slice_snoc a k l d (le_of_suc-le-suc h) (le_of_suc-le-suc lt)
 
 -- what is stored behind a front of a buffer makes the front longer by one
 pub store_next : {A : Type 0} (f b : List A) (i : ℕ) (x : A) → length f ≡ i → i < length b → set (f ++ drop i b) i x ≡ (f ++ (x ∷ [])) ++ drop (suc i) b
@@ -45,36 +35,31 @@ passing_passing a b (x ∷ l) = go (b x) (passing_passing a b l)
     go true ih = ap {B = List ℕ} (λ r. cons_if (a x) x r) ih
     go false ih = ih
 
--- ---- a row's open neighbours, slot by slot
+-- ---- a row's open neighbours, one by one
 
 abbrev pub wanted : List ℕ → ℕ → ℕ → Bool
 wanted mark v w = not (eqb w v) && unmarked mark w
 
--- those of the slots from a up to k
-abbrev pub open_to : List ℕ → List ℕ → ℕ → ℕ → ℕ → List ℕ
-open_to cols mark v a k = passing (wanted mark v) (slice a k cols)
+-- those of the first k
+abbrev pub open_to : List ℕ → List ℕ → ℕ → ℕ → List ℕ
+open_to row mark v k = passing (wanted mark v) (take k row)
 
-pub open_to_all : (starts cols mark : List ℕ) (v : ℕ) → open_of starts cols mark v ≡ open_to cols mark v (get_or starts v 0) (get_or starts (suc v) 0)
-unfolding open_of neighbours
-open_to_all starts cols mark v = passing_passing (unmarked mark) (λ c. not (eqb c v)) (row starts cols v)
+pub open_to_all : (row mark : List ℕ) (v k : ℕ) → length row ≤ k → open_to row mark v k ≡ open_of row mark v
+unfolding open_of
+open_to_all row mark v k h = ap (passing (wanted mark v)) (take_all k row h) ∙ sym (passing_passing (unmarked mark) (λ c. not (eqb c v)) row)
 
-open_to_none : (cols mark : List ℕ) (v a : ℕ) → open_to cols mark v a a ≡ []
-open_to_none cols mark v a = ap (λ (l : List ℕ). passing (wanted mark v) l) (slice_empty a cols)
-
-open_to_more : (cols mark : List ℕ) (v a k : ℕ) → a ≤ k → k < length cols
-    → open_to cols mark v a (suc k) ≡ open_to cols mark v a k ++ cons_if (wanted mark v (get_or cols k 0)) (get_or cols k 0) []
-open_to_more cols mark v a k h lt =
-    ap (λ (l : List ℕ). passing (wanted mark v) l) (slice_snoc a k cols 0 h lt)
-    ∙ passing_append (wanted mark v) (slice a k cols) (get_or cols k 0 ∷ [])
+open_to_more : (row mark : List ℕ) (v k : ℕ) → k < length row
+    → open_to row mark v (suc k) ≡ open_to row mark v k ++ cons_if (wanted mark v (get_or row k 0)) (get_or row k 0) []
+open_to_more row mark v k lt = ap (passing (wanted mark v)) (take-suc row k 0 lt) ∙ passing_append (wanted mark v) (take k row) (get_or row k 0 ∷ [])
 
 -- a part of a row has at most as many
-open_to_le : (cols mark : List ℕ) (v a k j : ℕ) → a ≤ k → k + j ≤ length cols → length (open_to cols mark v a k) ≤ length (open_to cols mark v a (k + j))
-open_to_le cols mark v a k zero h lt = subst (λ (i : ℕ). length (open_to cols mark v a k) ≤ length (open_to cols mark v a i)) (sym (add-zero k)) (omega arith)
-open_to_le cols mark v a k (suc j) h lt =
-    let p = open_to_le cols mark v a k j h (omega arith) in
-    let q = ap length (open_to_more cols mark v a (k + j) (omega arith) (omega arith)) ∙ length-append (open_to cols mark v a (k + j))
-    (cons_if (wanted mark v (get_or cols (k + j) 0)) (get_or cols (k + j) 0) []) in
-    subst (λ (i : ℕ). length (open_to cols mark v a k) ≤ length (open_to cols mark v a i)) (sym (add-suc k j)) (omega arith)
+open_to_le : (row mark : List ℕ) (v k : ℕ) → length (open_to row mark v k) ≤ length (open_of row mark v)
+open_to_le row mark v k =
+    let t = wanted mark v in
+    let e = ap length (sym (open_to_all row mark v (length row) (omega arith)) ∙ ap (passing t) (take_all (length row) row (omega arith) ∙ sym (take-append-drop k row))
+    ∙ passing_append t (take k row) (drop k row))
+    ∙ length-append (open_to row mark v k) (passing t (drop k row)) in
+    omega arith
 
 -- ---- marks
 
@@ -91,62 +76,39 @@ mark_all_more m l k h = ap (mark_all m) (take-suc l k 0 h) ∙ mark_all_append m
 
 -- ---- one turn of the loop that appends
 
-module _ (cols mark : List ℕ) (v a len : ℕ) (order₀ : List ℕ) where
+module _ (row mark : List ℕ) (v len : ℕ) (order₀ : List ℕ) where
   abbrev pub Appended : ℕ → ℕ → List ℕ → Type 0
-  Appended k at order = (at ≡ len + length (open_to cols mark v a k)) × (length order ≡ length order₀)
-      × (order ≡ (take len order₀ ++ open_to cols mark v a k) ++ drop at order₀)
+  Appended k at order = (at ≡ len + length (open_to row mark v k)) × (length order ≡ length order₀)
+      × (order ≡ (take len order₀ ++ open_to row mark v k) ++ drop at order₀)
 
-  pub append_none : Appended a len order₀
-  append_none = (
-    subst (λ (l : List ℕ). len ≡ len + length l) (sym (open_to_none cols mark v a)) (omega arith),
-    refl,
-    sym (lib.ListN.take-append-drop len order₀)
-        ∙ ap {B = List ℕ} (λ l. l ++ drop len order₀) (sym (append-nil (take len order₀)) ∙ ap {B = List ℕ} (λ l. take len order₀ ++ l)
-        (sym (open_to_none cols mark v a))),
-  )
+  module _ (k at : ℕ) (order : List ℕ) (lt : k < length row) (a : Appended k at order) where
+    turn : (b : Bool) → wanted mark v (get_or row k 0) ≡ b → open_to row mark v (suc k) ≡ open_to row mark v k ++ cons_if b (get_or row k 0) []
+    turn b w = open_to_more row mark v k lt ∙ ap {B = List ℕ} (λ t. open_to row mark v k ++ cons_if t (get_or row k 0) []) w
 
-  more_yes : (k : ℕ) → a ≤ k → k < length cols → wanted mark v (get_or cols k 0) ≡ true → open_to cols mark v a (suc k) ≡ open_to cols mark v a k ++
-      (get_or cols k 0 ∷ [])
-  more_yes k h lt w = open_to_more cols mark v a k h lt ∙ ap {B = List ℕ} (λ b. open_to cols mark v a k ++ cons_if b (get_or cols k 0) []) w
+    -- the place that a turn fills is within the room that the whole row is promised
+    pub append_room : (m : ℕ) → wanted mark v (get_or row k 0) ≡ true → len + length (open_of row mark v) ≤ m → at < m
+    append_room m w room =
+        let q = ap length (turn true w) ∙ length-append (open_to row mark v k) (get_or row k 0 ∷ []) in
+        omega (arith, a.0, open_to_le row mark v (suc k))
 
-  -- the place that a turn fills is within the room that the whole row is promised
-  pub append_room : (k e m at : ℕ) → a ≤ k → k < e → e ≤ length cols → wanted mark v (get_or cols k 0) ≡ true
-      → at ≡ len + length (open_to cols mark v a k) → len + length (open_to cols mark v a e) ≤ m → at < m
-  append_room k e m at h lt fits w p room =
-      let q = ap length (more_yes k h (omega arith) w) ∙ length-append (open_to cols mark v a k) (get_or cols k 0 ∷ []) in
-      let j = e - suc k in
-      let s : suc k + j ≡ e = omega arith in
-      let r : length (open_to cols mark v a (suc k)) ≤ length (open_to cols mark v a e) = subst
-      (λ (i : ℕ). length (open_to cols mark v a (suc k)) ≤ length (open_to cols mark v a i)) s (open_to_le cols mark v a (suc k) j (omega arith)
-      (omega arith)) in
-      omega arith
+    pub append_yes : wanted mark v (get_or row k 0) ≡ true → at < length order₀ → Appended (k + 1) (at + 1) (set order at (get_or row k 0))
+    append_yes w room =
+        let x = get_or row k 0 in
+        let m = turn true w in
+        let long = length-append (open_to row mark v k) (x ∷ []) in
+        let lf : length (take len order₀ ++ open_to row mark v k) ≡ at = length-append (take len order₀) (open_to row mark v k)
+        ∙ omega (arith, length-take-le len order₀ (omega (arith, a.0)), a.0) in
+        rw (add-one k, m) (
+          omega (arith, a.0),
+          length-set order at x ∙ a.1,
+          ap (λ (l : List ℕ). set l at x) a.2
+              ∙ store_next (take len order₀ ++ open_to row mark v k) order₀ at x lf room
+              ∙ ap {B = List ℕ} (λ l. l ++ drop (suc at) order₀) (append_assoc (take len order₀) (open_to row mark v k) (x ∷ []))
+              ∙ ap (λ (i : ℕ). (take len order₀ ++ (open_to row mark v k ++ (x ∷ []))) ++ drop i order₀) (sym (add-one at)),
+        )
 
-  pub append_yes : (k at : ℕ) (order : List ℕ) → a ≤ k → k < length cols → wanted mark v (get_or cols k 0) ≡ true → at < length order₀
-      → Appended k at order → Appended (suc k) (at + 1) (set order at (get_or cols k 0))
-  append_yes k at order h lt w room (p, q, s) =
-      let x = get_or cols k 0 in
-      let f = take len order₀ ++ open_to cols mark v a k in
-      let m = more_yes k h lt w in
-      let lf : length f ≡ at = length-append (take len order₀) (open_to cols mark v a k) ∙ omega (arith, length-take-le len order₀ (omega arith)) in (
-        p' m p,
-        length-set order at x ∙ q,
-        ap (λ (l : List ℕ). set l at x) s
-            ∙ store_next f order₀ at x lf room
-            ∙ ap {B = List ℕ} (λ l. l ++ drop (suc at) order₀) (append_assoc (take len order₀) (open_to cols mark v a k) (x ∷ [])
-            ∙ ap {B = List ℕ} (λ l. take len order₀ ++ l) (sym m))
-            ∙ ap (λ (i : ℕ). (take len order₀ ++ open_to cols mark v a (suc k)) ++ drop i order₀) (sym (native.Mathlib.Numerals.add-one at)),
-      )
-    where
-      p' : open_to cols mark v a (suc k) ≡ open_to cols mark v a k ++ (get_or cols k 0 ∷ []) → at ≡ len + length (open_to cols mark v a k)
-          → at + 1 ≡ len + length (open_to cols mark v a (suc k))
-      p' m p = let q = ap length m ∙ length-append (open_to cols mark v a k) (get_or cols k 0 ∷ []) in omega arith
-
-  pub append_no : (k at : ℕ) (order : List ℕ) → a ≤ k → k < length cols → wanted mark v (get_or cols k 0) ≡ false → Appended k at order
-      → Appended (suc k) at order
-  append_no k at order h lt w x =
-      let m = open_to_more cols mark v a k h lt ∙ ap {B = List ℕ} (λ b. open_to cols mark v a k ++ cons_if b (get_or cols k 0) []) w
-      ∙ append-nil (open_to cols mark v a k) in
-      subst (λ (l : List ℕ). (at ≡ len + length l) × (length order ≡ length order₀) × (order ≡ (take len order₀ ++ l) ++ drop at order₀)) (sym m) x
+    pub append_no : wanted mark v (get_or row k 0) ≡ false → Appended (k + 1) at order
+    append_no w = rw (add-one k, turn false w, append-nil) a
 
 -- ---- a part in the middle
 

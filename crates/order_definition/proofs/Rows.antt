@@ -36,7 +36,7 @@ module _ (n : ℕ) (starts cols : List ℕ) (t : Tight n starts cols) where
       let in_row : f + i < e = omega (arith, len) in
       (in_row, sym (get_or-take e cols (f + i) 0 in_row) ∙ sym (get_or-drop f (take e cols) i 0) ∙ at_get_or 0 a)
 
-  row_stored : (r w : ℕ) → r < n → In w (row starts cols r) → Stored (at starts) (at cols) r w
+  pub row_stored : (r w : ℕ) → r < n → In w (row starts cols r) → Stored (at starts) (at cols) r w
   row_stored r w lt a = let p = row_at r a.0 w lt a.1 in (get_or starts r 0 + a.0, ((omega arith, rw (add-one r) p.0), p.1))
 
   pub stored_row : (r w : ℕ) → r < n → Stored (at starts) (at cols) r w → In w (row starts cols r)

@@ -1,6 +1,10 @@
 -- A PATTERN IN LISTS OF JUST ITS LENGTH: the form in which the ordering takes it. Every well formed pattern gives one, cut out of the lists that hold it.
 use Rattle.std.specs.Prelude.{ℕ, suc, ◌+◌, ◌-◌, ◌≤◌, ◌<◌, ◌≡◌, List, length, get_or, take}
-use Rattle.std.proofs.Common.{arith, add-one, sym, ◌∙◌, length-take-le, get_or-take}
+use Rattle.std.proofs.Common.{arith, add-one, sym, ◌∙◌, ⊎_elim, length-take-le, get_or-take}
+use Rattle.std.specs.Coded.{×_prop, le_prop, Coded-set, coded_ℕ}
+use mathlib.Core.HLevel.{Σ_prop_path}
+use Rattle.law.proofs.Loop.{climbing}
+use Rattle.law.specs.Truth.{below_or}
 use Rattle.matrix_shape.specs.Formed.{InRow, Stored}
 use Rattle.matrix_shape.specs.Rows.{at, Pattern, row_of, row_end}
 
@@ -11,6 +15,32 @@ pub record Tight (n : ℕ) (starts cols : List ℕ) : Type 0 where
   pub below : (k : ℕ) → k < length cols → get_or cols k 0 < n
   pub strict : (r k : ℕ) → r < n → get_or starts r 0 ≤ k → suc k < get_or starts (suc r) 0 → get_or cols k 0 < get_or cols (suc k) 0
   pub diagonal : (r : ℕ) → r < n → Stored (at starts) (at cols) r r
+
+-- there is but one proof of it, since a row has no column twice
+module _ (n : ℕ) (starts cols : List ℕ) where
+  apart : Tight n starts cols → (r j k : ℕ) → r < n → InRow (at starts) r j → InRow (at starts) r k → j < k → at cols j < at cols k
+  apart t r j k l a b h =
+      climbing (at cols) (at starts r) (at starts (suc r))
+      (λ m g u. let e : suc (m - 1) ≡ m = omega arith in rw e at (t.strict r (m - 1) l (omega arith) (rw e u)))
+      j k a.0 h (rw (add-one r) at b.1)
+
+  one_slot : Tight n starts cols → (r : ℕ) → r < n → (s u : Stored (at starts) (at cols) r r) → s ≡ u
+  one_slot t r l s u = Σ_prop_path (λ k. ×_prop (×_prop le_prop le_prop) (Coded-set coded_ℕ _ _)) same
+    where
+      same : s.0 ≡ u.0
+      same =
+          ⊎_elim (λ h. absurd (omega (arith, apart t r s.0 u.0 l s.1.0 u.1.0 h, s.1.1, u.1.1)))
+          (λ g. ⊎_elim (λ h. absurd (omega (arith, apart t r u.0 s.0 l u.1.0 s.1.0 h, s.1.1, u.1.1))) (λ h. omega arith) (below_or u.0 s.0)) (below_or s.0 u.0)
+
+  pub Tight-prop : IsProp (Tight n starts cols)
+  Tight-prop t u i = record {
+    rows = Coded-set coded_ℕ _ _ t.rows u.rows i;
+    ends = Coded-set coded_ℕ _ _ t.ends u.ends i;
+    rise = λ r l. le_prop (t.rise r l) (u.rise r l) i;
+    below = λ k l. le_prop (t.below k l) (u.below k l) i;
+    strict = λ r k l a b. le_prop (t.strict r k l a b) (u.strict r k l a b) i;
+    diagonal = λ r l. one_slot t r l (t.diagonal r l) (u.diagonal r l) i;
+  }
 
 module _ (n : ℕ) (starts cols diagonal : List ℕ) (p : Pattern n starts cols diagonal) where
   abbrev starts_part : List ℕ

@@ -1,73 +1,49 @@
 // The placing: breadth-first, stretch by stretch, each particle adding its unplaced neighbours by (degree, index). What is placed is marked.
-ghost use Rattle.std.specs.Prelude.{◌≡◌, not, ◌&&◌, ◌++◌, ◌+◌, ◌≤◌, ◌<◌, eqb, length, take, drop, replicate};
-ghost use Rattle.law.specs.Limit.{particles};
-ghost use Rattle.order_definition.specs.Order.{neighbours, start_after, fresh, filled, placing};
-ghost use Rattle.order_definition.specs.Tight.{Tight};
-ghost use Rattle.order_definition.specs.Keys.{Below, RowAt};
-ghost use Rattle.order_definition.specs.Marks.{unmarked, open_of, Visited, Stands};
-ghost use Rattle.order_definition.specs.Searches.{TableOf};
+// Lists that are written stay parameters, and the order's length beside it: of a struct of them each clause would say that its fields keep their references.
+ghost use Rattle.std.specs.Prelude.{◌≡◌, ◌++◌, ◌+◌, ◌≤◌, ◌<◌, length, take, drop, replicate};
+ghost use Rattle.order_definition.specs.Keys.{Below};
+ghost use Rattle.order_definition.specs.Marks.{open_of, Visited, Stands};
+ghost use Rattle.order_definition.specs.Searches.{Lists};
+ghost use Rattle.order_make.specs.Placing.{placed_to, filled_to};
 
+use order_search::breadth;
+use order_start::ranked::Ranked;
 use order_start::start;
 use order_tables::{sort, tables};
 
-// Is w a neighbour of v, not v itself, that is not marked?
-fn is_wanted(mark: &[u32], v: usize, w: usize) -> bool
-    requires { w < length mark.now }
-    ensures { result ≡ (not (eqb w v) && unmarked mark.now w) }
+// Those of v's row that are open go into `order` from place len on. Answers the place after the last.
+// A walk of its own, beside the search's meet_row: one walk for both would take a closure that writes levels, and a proof loses what a closure writes.
+fn append_open(row: &[u32], mark: &[u32], order: &mut [u32], v: usize, len: usize) -> usize
+    requires below { Below (length mark.now) row.now }
+    requires room { len + length (open_of row.now mark.now v) ≤ length order.old }
+    ensures value { result ≡ len + length (open_of row.now mark.now v) }
+    ensures order_after { order.new ≡ (take len order.old ++ open_of row.now mark.now v) ++ drop result order.old }
 {
-    (w != v) & (mark[w] == 0)
-}
-
-// v's unmarked neighbours go into `order` from place len on. Answers the place after the last.
-fn append_open(
-    row_offsets: &[u32],
-    cols: &[u32],
-    mark: &[u32],
-    order: &mut [u32],
-    v: usize,
-    len: usize,
-) -> usize
-    requires row_at { RowAt row_offsets.now (length cols.now) v }
-    requires below { Below (length mark.now) cols.now }
-    requires v_in_bounds { len + length (open_of row_offsets.now cols.now mark.now v) ≤ length order.old }
-    ensures value { result ≡ len + length (open_of row_offsets.now cols.now mark.now v) }
-    ensures order_after { order.new ≡
-        (take len order.old ++ open_of row_offsets.now cols.now mark.now v)
-        ++ drop result order.old }
-{
-    let a = law::wide(row_offsets[v]);
-    let e = law::wide(row_offsets[v + 1]);
-    let mut k = a;
     let mut at = len;
-    while k < e {
-        let w = cols[k];
-        if is_wanted(mark, v, law::wide(w)) {
-            order[at] = w;
+    for w in row {
+        if breadth::is_open(mark, v, law::wide(*w)) {
+            order[at] = *w;
             at += 1;
         }
-        k += 1;
     }
     at
 }
 
-// v adds its unmarked neighbours to the order, sorted, and they are marked. Answers the place after the last.
+// v adds those of its row that are open to the order, sorted, and they are marked. Answers the place after the last.
 fn visit(
-    row_offsets: &[u32],
-    cols: &[u32],
+    row: &[u32],
     degrees: &[u32],
     order: &mut [u32],
     mark: &mut [u32],
     v: usize,
     len: usize,
 ) -> usize
-    requires row_at { RowAt row_offsets.now (length cols.now) v }
-    requires below { Below (length mark.old) cols.now }
+    requires below { Below (length mark.old) row.now }
     requires degrees_len { length degrees.now ≡ length mark.old }
-    requires v_in_bounds { len + length (open_of row_offsets.now cols.now mark.old v) ≤ length order.old }
-    ensures { Visited row_offsets.now cols.now degrees.now order.old mark.old v len result
-        order.new mark.new }
+    requires room { len + length (open_of row.now mark.old v) ≤ length order.old }
+    ensures { Visited row.now degrees.now order.old mark.old v len result order.new mark.new }
 {
-    let end = append_open(row_offsets, cols, mark, order, v, len);
+    let end = append_open(row, mark, order, v, len);
     sort::sort_by_key(degrees, &mut order[len..end]);
     tables::mark_all(&order[len..end], mark);
     end
@@ -75,9 +51,7 @@ fn visit(
 
 // Where nobody stands at place h yet, the next stretch's start is put there. Answers the length.
 fn open_stretch(
-    row_offsets: &[u32],
-    cols: &[u32],
-    degrees: &[u32],
+    ranked: &Ranked,
     order: &mut [u32],
     mark: &mut [u32],
     level: &mut [u32],
@@ -85,23 +59,16 @@ fn open_stretch(
     h: usize,
     len: usize,
 ) -> usize
-    requires tight { Tight (length mark.old) row_offsets.now cols.now }
-    requires mark_len_bound { length mark.old ≤ particles }
-    requires level_len { length level.old ≡ length mark.old }
-    requires queue_len { length queue.old ≡ length mark.old }
-    requires table_of { TableOf row_offsets.now cols.now (length mark.old) degrees.now }
-    requires stands { Stands (length mark.old) (take len order.old) order.old mark.old len }
-    requires below { Below (length mark.old) (take len order.old) }
-    requires h_in_bounds { h < length mark.old }
-    ensures { Stands (length mark.old)
-        (filled (start_after (neighbours row_offsets.now cols.now) (length mark.old))
-        (fresh (neighbours row_offsets.now cols.now) (length mark.old)) (take len order.old) h)
-        order.new mark.new result }
+    requires lists { Lists ranked.now.graph.n mark.old level.old queue.old }
+    requires stands { Stands ranked.now.graph.n (placed_to ranked.now.graph h) order.old mark.old len }
+    requires h_in_bounds { h < ranked.now.graph.n }
+    ensures { Stands ranked.now.graph.n (filled_to ranked.now.graph h) order.new mark.new result }
 {
     if h < len {
         return len;
     }
-    let s = start::find_start(row_offsets, cols, degrees, mark, level, queue);
+    let s = start::find_start(ranked, mark, level, queue);
+    // The cast is proved to fit; try_from would answer an error that can't be.
     order[len] = s as u32;
     mark[s] = 1;
     len + 1
@@ -109,42 +76,21 @@ fn open_stretch(
 
 // The order, not yet reversed.
 pub fn place_all(
-    row_offsets: &[u32],
-    cols: &[u32],
-    degrees: &[u32],
+    ranked: &Ranked,
     order: &mut [u32],
     mark: &mut [u32],
     level: &mut [u32],
     queue: &mut [u32],
 )
-    requires tight { Tight (length mark.old) row_offsets.now cols.now }
-    requires mark_len_bound { length mark.old ≤ particles }
-    requires level_len { length level.old ≡ length mark.old }
-    requires queue_len { length queue.old ≡ length mark.old }
-    requires table_of { TableOf row_offsets.now cols.now (length mark.old) degrees.now }
-    requires order_len { length order.old ≡ length mark.old }
-    requires mark_value { mark.old ≡ replicate (length mark.old) 0 }
-    ensures { order.new ≡ placing
-        (start_after (neighbours row_offsets.now cols.now) (length mark.old))
-        (fresh (neighbours row_offsets.now cols.now) (length mark.old))
-        (length mark.old) }
+    requires lists { Lists ranked.now.graph.n mark.old level.old queue.old }
+    requires order_len { length order.old ≡ ranked.now.graph.n }
+    requires unmarked { mark.old ≡ replicate ranked.now.graph.n 0 }
+    ensures { order.new ≡ placed_to ranked.now.graph ranked.now.graph.n }
 {
-    let mut h: usize = 0;
     let mut len: usize = 0;
-    while h < order.len() {
-        len = open_stretch(
-            row_offsets,
-            cols,
-            degrees,
-            order,
-            mark,
-            level,
-            queue,
-            h,
-            len,
-        );
+    for h in 0..order.len() {
+        len = open_stretch(ranked, order, mark, level, queue, h, len);
         let v = law::wide(order[h]);
-        len = visit(row_offsets, cols, degrees, order, mark, v, len);
-        h += 1;
+        len = visit(ranked.graph.row(v), ranked.degrees, order, mark, v, len);
     }
 }

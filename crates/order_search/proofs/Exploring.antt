@@ -12,14 +12,16 @@ use lib.Seq.{get_or-take, get_or-set_same, get_or-set_other, set_out, take-suc-s
 use lib.Dec.{eqb}
 use borrow.Author.Tests.{lt-ltb, le-ltb, eqb-true, eqb-false}
 use Rattle.law.specs.Truth.{below_or}
-use Rattle.order_definition.specs.Order.{neighbours, Breadth, met, meet, meet_all, spread, reach}
-use Rattle.order_definition.specs.Tight.{Tight}
-use Rattle.order_definition.specs.Keys.{Below, RowAt}
+use Rattle.order_definition.specs.Order.{row, neighbours, Breadth, met, meet, meet_all, spread, reach}
+use Rattle.order_definition.specs.Keys.{Below}
 use Rattle.order_definition.specs.Marks.{unmarked}
-use Rattle.order_definition.specs.Searches.{Searched, reach_of, meet_row}
+use Rattle.order_definition.specs.Searches.{Searched, FreeAt, reach_of, meet_row}
 use Rattle.order_definition.proofs.At.{get_d_at}
 use Rattle.order_definition.proofs.Free.{Sound, short, reach_sound}
-use Rattle.order_definition.proofs.Rows.{row_fits, near}
+use Rattle.order_definition.proofs.Rows.{near, reaches, row_stored}
+use Rattle.order_definition.proofs.Visiting.{in_below}
+use Rattle.order_search.specs.declared.graph.Graph.{Graph}
+use Rattle.order_search.specs.Graph.{beside, reached}
 
 -- ---- levels are small
 
@@ -82,54 +84,65 @@ module _ (nb : ℕ → List ℕ) (n : ℕ) (free : ℕ → Bool) (s : ℕ) where
       ∙ ap (λ (r : Breadth). spread nb free r (h + j)) (reach_stay h j le)
       ∙ spread_no (reach nb n free s h) (h + j) (omega arith)
 
--- ---- over a pattern
+-- ---- over a graph
 
-pub rows_at : (n : ℕ) (starts cols : List ℕ) → Tight n starts cols → (v : ℕ) → v < n → RowAt starts (length cols) v
-rows_at n starts cols tight v lt = record { there = omega (arith, tight.rows); rise = tight.rise v lt; fits = row_fits n starts cols tight v lt }
+-- a row holds particles
+pub row_below : (g : Graph) (v : ℕ) → v < g.n → Below g.n (row g.row_offsets.now g.cols.now v)
+row_below g v lt = in_below g.n (row g.row_offsets.now g.cols.now v) (λ w a. reaches g.n _ _ g.tight v w lt (row_stored g.n _ _ g.tight v w lt a))
 
-pub cols_below : (n : ℕ) (starts cols : List ℕ) → Tight n starts cols → Below n cols
-cols_below n starts cols tight = record { below = tight.below }
-
-module _ (n : ℕ) (starts cols mark : List ℕ) (tight : Tight n starts cols) (s : ℕ) (lt : s < n) (fr : unmarked mark s ≡ true) where
+module _ (g : Graph) (mark : List ℕ) (s : ℕ) (long : length mark ≡ g.n) (f : FreeAt mark s) where
   abbrev rch : ℕ → Breadth
-  rch h = reach (neighbours starts cols) n (unmarked mark) s h
+  rch h = reach (beside g) g.n (unmarked mark) s h
 
-  pub sound : (h : ℕ) → Sound (neighbours starts cols) n (unmarked mark) (rch h)
-  sound h = reach_sound (neighbours starts cols) n (unmarked mark) (near n starts cols tight) s lt fr h
+  pub sound : (h : ℕ) → Sound (beside g) g.n (unmarked mark) (rch h)
+  sound h = reach_sound (beside g) g.n (unmarked mark) (near g.n _ _ g.tight) s (omega (arith, f.below)) f.free h
 
-  pub queue_short : (h : ℕ) → length (rch h).queue ≤ n
-  queue_short h = short (neighbours starts cols) n (unmarked mark) (rch h) (sound h)
+  pub queue_short : (h : ℕ) → length (rch h).queue ≤ g.n
+  queue_short h = short (beside g) g.n (unmarked mark) (rch h) (sound h)
 
-  module _ (h len : ℕ) (queue level : List ℕ) (st : Searched (rch h) queue level len) (more : h < len) where
-    whose : get_or queue h 0 ≡ get_or (rch h).queue h 0
-    whose = sym (get_or-take len queue h 0 more) ∙ ap (λ (t : List ℕ). get_or t h 0) st.front
+  module _ (h len : ℕ) (queue level : List ℕ) (st : Searched (rch h) queue level len) where
+    pub len_short : len ≤ g.n
+    len_short = omega (arith, st.size, queue_short h)
 
-    pub v_below : get_or queue h 0 < n
-    v_below = subst (λ (w : ℕ). w < n) (sym whose) ((sound h).below _ (h, get_d_at (rch h).queue h 0 (omega (arith, st.size))))
+    module _ (more : h < len) where
+      whose : get_or queue h 0 ≡ get_or (rch h).queue h 0
+      whose = sym (get_or-take len queue h 0 more) ∙ ap (λ (t : List ℕ). get_or t h 0) st.front
 
-    pub level_small : get_or level (get_or queue h 0) 0 ≤ suc h
-    level_small = subst (λ (t : List ℕ). get_or t (get_or queue h 0) 0 ≤ suc h) (sym st.levels)
-        (reach_level (neighbours starts cols) n (unmarked mark) s h (get_or queue h 0))
+      pub v_below : get_or queue h 0 < g.n
+      v_below = subst (λ (w : ℕ). w < g.n) (sym whose) ((sound h).below _ (h, get_d_at (rch h).queue h 0 (omega (arith, st.size))))
 
-    pub row_step : (v l : ℕ) → v ≡ get_or queue h 0 → l ≡ get_or level v 0 + 1 → meet_row starts cols mark l v (reach_of queue level len) ≡ rch (suc h)
-    unfolding meet_row
-    row_step v l pv pl =
-        let r : reach_of queue level len ≡ rch h = λ i. record { queue = st.front i; level = st.levels i } in
-        let ev : v ≡ get_or (rch h).queue h 0 = pv ∙ whose in
-        let el : l ≡ suc (get_or (rch h).level (get_or (rch h).queue h 0) 0) = pl ∙ add-one (get_or level v 0)
-        ∙ ap suc (ap (λ (t : List ℕ). get_or t v 0) st.levels ∙ ap (λ (w : ℕ). get_or (rch h).level w 0) ev) in
-        ap (λ (t : Breadth). meet_all (unmarked mark) l t (neighbours starts cols v)) r
-        ∙ ap (λ (k : ℕ). meet_all (unmarked mark) k (rch h) (neighbours starts cols v)) el
-        ∙ ap (λ (w : ℕ). meet_all (unmarked mark) (suc (get_or (rch h).level (get_or (rch h).queue h 0) 0)) (rch h) (neighbours starts cols w)) ev
-        ∙ sym (reach_more (neighbours starts cols) n (unmarked mark) s h (omega (arith, st.size)))
+      pub level_small : get_or level (get_or queue h 0) 0 ≤ suc h
+      level_small = subst (λ (t : List ℕ). get_or t (get_or queue h 0) 0 ≤ suc h) (sym st.levels)
+          (reach_level (beside g) g.n (unmarked mark) s h (get_or queue h 0))
 
-  pub all_done : (h len : ℕ) (queue level : List ℕ) → Searched (rch h) queue level len → len ≤ h → h ≤ n → Searched (rch n) queue level len
-  all_done h len queue level st le ge =
-      let q = queue_short h in
-      let e : h + (n - h) ≡ n = omega (arith, st.size) in
-      let p : rch n ≡ rch h = ap rch (sym e) ∙ reach_stay (neighbours starts cols) n (unmarked mark) s h (n - h) (omega (arith, st.size)) in
-      subst (λ (r : Breadth). Searched r queue level len) (sym p) st
+      pub row_step : (v : ℕ) → v ≡ get_or queue h 0 → meet_row (row g.row_offsets.now g.cols.now v) mark (get_or level v 0 + 1) v (reach_of queue level len) ≡ rch (h + 1)
+      unfolding meet_row neighbours
+      row_step v pv =
+          let r : reach_of queue level len ≡ rch h = λ i. record { queue = st.front i; level = st.levels i } in
+          let ev : v ≡ get_or (rch h).queue h 0 = pv ∙ whose in
+          let el : get_or level v 0 + 1 ≡ suc (get_or (rch h).level (get_or (rch h).queue h 0) 0) = add-one (get_or level v 0)
+          ∙ ap suc (ap (λ (t : List ℕ). get_or t v 0) st.levels ∙ ap (λ (w : ℕ). get_or (rch h).level w 0) ev) in
+          ap (λ (t : Breadth). meet_all (unmarked mark) (get_or level v 0 + 1) t (beside g v)) r
+          ∙ ap (λ (k : ℕ). meet_all (unmarked mark) k (rch h) (beside g v)) el
+          ∙ ap (λ (w : ℕ). meet_all (unmarked mark) (suc (get_or (rch h).level (get_or (rch h).queue h 0) 0)) (rch h) (beside g w)) ev
+          ∙ sym (reach_more (beside g) g.n (unmarked mark) s h (omega (arith, st.size)))
+          ∙ ap rch (sym (add-one h))
 
-  pub begun : (queue : List ℕ) (level : List ℕ) → 0 < length queue → level ≡ replicate n 0 → Searched (rch 0) (set queue 0 s) (set level s 1) 1
+      -- and the queue has room for those that are met
+      pub row_room : (v : ℕ) → v ≡ get_or queue h 0 → length (meet_row (row g.row_offsets.now g.cols.now v) mark (get_or level v 0 + 1) v (reach_of queue level len)).queue
+          ≤ g.n
+      row_room v pv = rw (row_step v pv) (queue_short (h + 1))
+
+    pub all_done : len ≤ h → h ≤ g.n → Searched (reached g mark s) queue level len
+    all_done le ge =
+        let e : h + (g.n - h) ≡ g.n = omega arith in
+        let p : rch g.n ≡ rch h = ap rch (sym e) ∙ reach_stay (beside g) g.n (unmarked mark) s h (g.n - h) (omega (arith, st.size)) in
+        subst (λ (r : Breadth). Searched r queue level len) (sym p) st
+
+  pub begun : (queue level : List ℕ) → length queue ≡ g.n → level ≡ replicate g.n 0 → Searched (rch 0) (set queue 0 s) (set level s 1) 1
   unfolding reach
-  begun queue level room e = record { size = refl; front = take-suc-set queue 0 s room; levels = ap (λ (t : List ℕ). set t s 1) e }
+  begun queue level room e = record {
+    size = refl;
+    front = take-suc-set queue 0 s (omega (arith, f.below));
+    levels = ap (λ (t : List ℕ). set t s 1) e;
+  }

@@ -1,25 +1,33 @@
 // The breadth-first search over the particles that are not marked.
-ghost use Rattle.std.specs.Prelude.{◌≡◌, not, true, ◌&&◌, ◌≤◌, ◌<◌, eqb, length, get_or};
-ghost use Rattle.law.specs.Limit.{particles};
-ghost use Rattle.order_definition.specs.Order.{reach, neighbours};
-ghost use Rattle.order_definition.specs.Tight.{Tight};
-ghost use Rattle.order_definition.specs.Keys.{Below, RowAt};
+// Lists that are written stay parameters, and the queue's length beside it: of a struct of them each clause would say that its fields keep their references.
+ghost use Rattle.std.specs.Prelude.{◌≡◌, not, ◌&&◌, ◌≤◌, ◌<◌, eqb, length, get_or};
+ghost use Rattle.order_definition.specs.Keys.{Below};
 ghost use Rattle.order_definition.specs.Marks.{unmarked};
-ghost use Rattle.order_definition.specs.Searches.{Searched, reach_of, meet_row};
+ghost use Rattle.order_definition.specs.Searches.{Searched, Lists, FreeAt, reach_of, meet_row};
+ghost use Rattle.order_search.specs.Graph.{reached};
 
-// Does the search meet w in v's row: w is not v, not marked and has no level yet?
-fn is_new(mark: &[u32], level: &[u32], v: usize, w: usize) -> bool
-    requires w_in_bounds { w < length mark.now }
-    requires w_in_bounds_2 { w < length level.now }
-    ensures { result ≡ (not (eqb w v) && (unmarked mark.now w && eqb (get_or level.now w 0) 0)) }
+use crate::graph::Graph;
+
+// Is w another than v, and not marked?
+pub fn is_open(mark: &[u32], v: usize, w: usize) -> bool
+    requires { w < length mark.now }
+    ensures { result ≡ (not (eqb w v) && unmarked mark.now w) }
 {
-    (w != v) & ((mark[w] == 0) & (level[w] == 0))
+    (w != v) & (mark[w] == 0)
 }
 
-// v meets its neighbours, at the level l. Answers the queue's new length.
+// Does the search meet w in v's row: it is open and has no level yet?
+fn is_new(mark: &[u32], level: &[u32], v: usize, w: usize) -> bool
+    requires mark_in_bounds { w < length mark.now }
+    requires level_in_bounds { w < length level.now }
+    ensures { result ≡ ((not (eqb w v) && unmarked mark.now w) && eqb (get_or level.now w 0) 0) }
+{
+    is_open(mark, v, w) & (level[w] == 0)
+}
+
+// v meets those of its row, at the level l. Answers the queue's new length.
 fn meet_row(
-    row_offsets: &[u32],
-    cols: &[u32],
+    row: &[u32],
     mark: &[u32],
     level: &mut [u32],
     queue: &mut [u32],
@@ -27,61 +35,43 @@ fn meet_row(
     len: usize,
     l: u32,
 ) -> usize
-    requires row_at { RowAt row_offsets.now (length cols.now) v }
-    requires below { Below (length mark.now) cols.now }
+    requires below { Below (length mark.now) row.now }
     requires level_len { length level.old ≡ length mark.now }
     requires len_in_bounds { len ≤ length queue.old }
-    requires len_in_bounds_2 { length (meet_row row_offsets.now cols.now mark.now l v (reach_of queue.old level.old len)).queue ≤ length queue.old }
+    requires room { length (meet_row row.now mark.now l v (reach_of queue.old level.old len)).queue ≤ length queue.old }
     ensures { Searched
-        (meet_row row_offsets.now cols.now mark.now l v (reach_of queue.old level.old len))
+        (meet_row row.now mark.now l v (reach_of queue.old level.old len))
         queue.new level.new result }
 {
-    let a = law::wide(row_offsets[v]);
-    let e = law::wide(row_offsets[v + 1]);
-    let mut k = a;
     let mut at = len;
-    while k < e {
-        let c = cols[k];
-        let w = law::wide(c);
+    for c in row {
+        let w = law::wide(*c);
         if is_new(mark, level, v, w) {
             level[w] = l;
-            queue[at] = c;
+            queue[at] = *c;
             at += 1;
         }
-        k += 1;
     }
     at
 }
 
 // The search from s. Answers the queue's length.
-pub fn explore(
-    row_offsets: &[u32],
-    cols: &[u32],
-    mark: &[u32],
-    level: &mut [u32],
-    queue: &mut [u32],
-    s: usize,
-) -> usize
-    requires tight { Tight (length mark.now) row_offsets.now cols.now }
-    requires mark_len_bound { length mark.now ≤ particles }
-    requires level_len { length level.old ≡ length mark.now }
-    requires queue_len { length queue.old ≡ length mark.now }
-    requires s_in_bounds { s < length mark.now }
-    requires s_value { unmarked mark.now s ≡ true }
-    ensures { Searched
-        (reach (neighbours row_offsets.now cols.now) (length mark.now) (unmarked mark.now) s
-        (length mark.now))
-        queue.new level.new result }
+pub fn explore(graph: &Graph, mark: &[u32], level: &mut [u32], queue: &mut [u32], s: usize) -> usize
+    requires lists { Lists graph.now.n mark.now level.old queue.old }
+    requires free_at { FreeAt mark.now s }
+    ensures { Searched (reached graph.now mark.now s) queue.new level.new result }
 {
     law::lists::clear(level);
     level[s] = 1;
+    // The cast is proved to fit; try_from would answer an error that can't be.
     queue[0] = s as u32;
     let mut len: usize = 1;
     let mut head: usize = 0;
+    // No `for`: the queue grows while it is read.
     while head < len {
         let v = law::wide(queue[head]);
         let l = level[v] + 1;
-        len = meet_row(row_offsets, cols, mark, level, queue, v, len, l);
+        len = meet_row(graph.row(v), mark, level, queue, v, len, l);
         head += 1;
     }
     len

@@ -1,22 +1,26 @@
 -- One more search, and where the search for a start ends.
 use Prim.Native.Nat.{ℕ, zero, suc, ◌-◌, ◌≤◌, ◌<◌}
 use native.Mathlib.Omega.{arith}
-use mathlib.Core.Path.{◌≡◌, refl, ap, ◌∙◌, subst}
+use mathlib.Core.Path.{◌≡◌, refl, ap, ◌∙◌}
 use mathlib.Core.Bool.{Bool, true, false}
 use mathlib.Core.List.{List}
 use lib.ListN.{length}
 use lib.Dec.{leb}
 use borrow.Author.Tests.{le-leb, lt-leb}
-use Rattle.order_definition.specs.Order.{passing, numbers, least, degree, neighbours, reach, depth, far_of, settle, choose_start}
-use Rattle.order_definition.specs.Keys.{key_of, valued, Below}
-use Rattle.order_definition.specs.Tight.{Tight}
+use Rattle.order_definition.specs.Order.{passing, numbers, least, degree, reach, depth, far_of, settle, choose_start}
+use Rattle.order_definition.specs.Keys.{key_of, first_by, valued, Below}
 use Rattle.order_definition.specs.Marks.{unmarked}
 use Rattle.order_definition.specs.Searches.{FreeAt, SomeFree, TableOf}
-use Rattle.order_definition.proofs.At.{In}
 use Rattle.order_definition.proofs.Visiting.{in_below}
-use Rattle.order_definition.proofs.Pigeon.{numbers_below}
+use Rattle.order_definition.proofs.Pigeon.{in_numbers, numbers_below}
+use Rattle.order_definition.proofs.Choosing.{first_some, first_least}
+use Rattle.order_definition.proofs.Lists.{in_passing}
+use Rattle.order_search.specs.declared.graph.Graph.{Graph}
+use Rattle.order_search.specs.Graph.{beside, reached}
+use Rattle.order_search.proofs.Exploring.{sound}
+use Rattle.std.proofs.Common.{IsSome, Some}
 use Rattle.order_start.proofs.Looking.{keys_are}
-use Rattle.order_definition.proofs.Free.{far_free, reach_sound, least_free}
+use Rattle.order_definition.proofs.Free.{far_free, least_free}
 use Rattle.order_definition.proofs.Rows.{near}
 
 module _ (nb : ℕ → List ℕ) (n : ℕ) (free : ℕ → Bool) where
@@ -57,44 +61,35 @@ unfolding settle
 none nb n free zero s far deep e = refl
 none nb n free (suc k) s far deep e = absurd (omega arith)
 
-pub far_free_at : (starts cols mark : List ℕ) (s : ℕ) → Tight (length mark) starts cols → FreeAt mark s
-    → FreeAt mark (far_of (neighbours starts cols) (length mark) (reach (neighbours starts cols) (length mark) (unmarked mark) s (length mark)))
-far_free_at starts cols mark s tight f =
-    let n = length mark in
-    let r = reach (neighbours starts cols) n (unmarked mark) s n in
-    let q = far_free (neighbours starts cols) n (unmarked mark) (near (length mark) starts cols tight) r
-    (reach_sound (neighbours starts cols) n (unmarked mark) (near (length mark) starts cols tight) s f.below f.free n) in
-    record { below = q.0; free = q.1 }
+pub far_free_at : (g : Graph) (mark : List ℕ) (s : ℕ) → length mark ≡ g.n → FreeAt mark s → FreeAt mark (far_of (beside g) g.n (reached g mark s))
+far_free_at g mark s long f =
+    let q = far_free (beside g) g.n (unmarked mark) (near g.n _ _ g.tight) (reached g mark s) (sound g mark s long f g.n) in
+    record { below = omega (arith, q.0); free = q.1 }
 
 -- ---- the whole choice
 
-pub least_free_at : (starts cols mark : List ℕ) → Tight (length mark) starts cols → SomeFree mark
-    → FreeAt mark (least (length mark) (degree (neighbours starts cols)) (passing (unmarked mark) (numbers (length mark))))
-least_free_at starts cols mark tight f =
-    let q = least_free (neighbours starts cols) (length mark) (unmarked mark) (near (length mark) starts cols tight) (degree (neighbours starts cols)) f.one f.is_free.below
-    f.is_free.free in
-    record { below = q.0; free = q.1 }
+module _ (g : Graph) (mark degrees list : List ℕ) (long : length mark ≡ g.n) (table : TableOf g.row_offsets.now g.cols.now g.n degrees)
+    (e : list ≡ numbers (length mark)) (one : SomeFree mark) where
+  abbrev first_of : ℕ
+  first_of = least g.n (degree (beside g)) (passing (unmarked mark) (numbers g.n))
 
-pub least_is : (starts cols mark degrees list : List ℕ) → TableOf starts cols (length mark) degrees → list ≡ numbers (length mark)
-    → least (length degrees) (key_of degrees) (passing (valued mark 0) list) ≡ least (length mark) (degree (neighbours starts cols))
-    (passing (unmarked mark) (numbers (length mark)))
-least_is starts cols mark degrees list t e =
-    ap (λ (k : ℕ). least k (key_of degrees) (passing (unmarked mark) list)) t.long
-    ∙ ap (λ (d : ℕ → ℕ). least (length mark) d (passing (unmarked mark) list)) (keys_are starts cols (length mark) degrees t)
-    ∙ ap (λ (l : List ℕ). least (length mark) (degree (neighbours starts cols)) (passing (unmarked mark) l)) e
+  pub counted_below : Below (length degrees) list
+  counted_below = rw (table.long, e, long) (in_below g.n (numbers g.n) (numbers_below g.n))
 
-pub choose_is : (starts cols mark : List ℕ) (s far deep : ℕ)
-    → s ≡ least (length mark) (degree (neighbours starts cols)) (passing (unmarked mark) (numbers (length mark)))
-    → far ≡ far_of (neighbours starts cols) (length mark) (reach (neighbours starts cols) (length mark) (unmarked mark) s (length mark))
-    → deep ≡ depth (neighbours starts cols) (length mark) (reach (neighbours starts cols) (length mark) (unmarked mark) s (length mark))
-    → settle (neighbours starts cols) (length mark) (unmarked mark) 4 s far deep ≡ choose_start (neighbours starts cols) (length mark) (unmarked mark)
+  pub least_some : IsSome (first_by (key_of degrees) (passing (valued mark 0) list))
+  least_some = first_some (key_of degrees) (passing (valued mark 0) list) one.one (in_passing (valued mark 0) list one.one (rw e (in_numbers (length mark) one.one one.is_free.below)) one.is_free.free)
+
+  module _ (s : ℕ) (h : first_by (key_of degrees) (passing (valued mark 0) list) ≡ Some s) where
+    pub least_is : s ≡ first_of
+    least_is = first_least g.n (key_of degrees) (passing (valued mark 0) list) s h ∙ rw (keys_are _ _ _ degrees table, e, long)
+
+    pub least_free_at : FreeAt mark s
+    least_free_at =
+        let q = least_free (beside g) g.n (unmarked mark) (near g.n _ _ g.tight) (degree (beside g)) one.one (omega (arith, one.is_free.below)) one.is_free.free in
+        rw least_is (record { below = omega (arith, q.0); free = q.1 })
+
+pub choose_is : (g : Graph) (mark : List ℕ) (s far deep : ℕ) → s ≡ least g.n (degree (beside g)) (passing (unmarked mark) (numbers g.n))
+    → far ≡ far_of (beside g) g.n (reached g mark s) → deep ≡ depth (beside g) g.n (reached g mark s)
+    → settle (beside g) g.n (unmarked mark) 4 s far deep ≡ choose_start (beside g) g.n (unmarked mark)
 unfolding choose_start
-choose_is starts cols mark s far deep p q r =
-    let nb = neighbours starts cols in
-    let n = length mark in
-    ap (λ (x : ℕ). settle nb n (unmarked mark) 4 s x deep) q
-    ∙ ap (λ (x : ℕ). settle nb n (unmarked mark) 4 s (far_of nb n (reach nb n (unmarked mark) s n)) x) r
-    ∙ ap (λ (x : ℕ). settle nb n (unmarked mark) 4 x (far_of nb n (reach nb n (unmarked mark) x n)) (depth nb n (reach nb n (unmarked mark) x n))) p
-
-pub counted_below : (m n : ℕ) (l : List ℕ) → l ≡ numbers m → m ≡ n → Below n l
-counted_below m n l e p = in_below n l (λ w a. numbers_below n w (subst (λ (t : List ℕ). In w t) (e ∙ ap numbers p) a))
+choose_is g mark s far deep e p q = rw (p, q, e)

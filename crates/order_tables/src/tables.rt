@@ -1,4 +1,4 @@
-// Whole lists written in one pass.
+// Whole lists written in one pass. Where a loop goes by numbers, a place's number is what is stored, or is read beside the next one.
 ghost use Rattle.std.specs.Prelude.{◌≡◌, reverse, suc, ◌≤◌, length};
 ghost use Rattle.law.specs.Limit.{particles};
 ghost use Rattle.order_definition.specs.Order.{numbers};
@@ -11,10 +11,9 @@ pub fn count_up(buf: &mut [u32])
     requires { length buf.old ≤ particles }
     ensures { buf.new ≡ numbers (length buf.old) }
 {
-    let mut i: usize = 0;
-    while i < buf.len() {
+    for i in 0..buf.len() {
+        // The cast is proved to fit; try_from would answer an error that can't be.
         buf[i] = i as u32;
-        i += 1;
     }
 }
 
@@ -24,10 +23,8 @@ pub fn fill_degrees(row_offsets: &[u32], degrees: &mut [u32])
     requires rising { Rising row_offsets.now (length degrees.old) }
     ensures { degrees.new ≡ degrees_to row_offsets.now (length degrees.old) }
 {
-    let mut v: usize = 0;
-    while v < degrees.len() {
+    for v in 0..degrees.len() {
         degrees[v] = row_offsets[v + 1] - row_offsets[v] - 1;
-        v += 1;
     }
 }
 
@@ -36,11 +33,8 @@ pub fn mark_all(list: &[u32], mark: &mut [u32])
     requires { Below (length mark.old) list.now }
     ensures { mark.new ≡ mark_all mark.old list.now }
 {
-    let mut k: usize = 0;
-    while k < list.len() {
-        let w = law::wide(list[k]);
-        mark[w] = 1;
-        k += 1;
+    for w in list {
+        mark[law::wide(*w)] = 1;
     }
 }
 
@@ -49,9 +43,6 @@ pub fn reverse_into(from: &[u32], into: &mut [u32])
     requires { length from.now ≡ length into.old }
     ensures { into.new ≡ reverse from.now }
 {
-    let mut i: usize = 0;
-    while i < into.len() {
-        into[i] = from[from.len() - 1 - i];
-        i += 1;
-    }
+    into.copy_from_slice(from);
+    into.reverse();
 }

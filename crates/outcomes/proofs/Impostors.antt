@@ -6,6 +6,7 @@ use mathlib.Core.Path.{◌≡◌, refl, sym, ap, ◌∙◌}
 use mathlib.Core.List.{[], ◌∷◌}
 use mathlib.Core.Logic.{◌⊎◌, inl, inr, ⊎_elim}
 use Rattle.law.specs.Limit.{tally}
+use Rattle.law.specs.Refusal.{Verdict}
 use Rattle.law.specs.Promise.{by, outcome}
 use Rattle.law.proofs.Promise.{zero_from}
 use Rattle.matrix_pairs.specs.Pairs.{Together}
@@ -16,7 +17,7 @@ use Rattle.outcomes.specs.Impostors.{NoGoodCallRefused, NoConstantOrder, NoSilen
 
 pub no_good_call_refused : NoGoodCallRefused
 unfolding outcome
-no_good_call_refused I O d i o h e = e ∙ ap (λ (k : ℕ). by k (d.work i) (λ j. d.refuse j i)) (zero_from d i h)
+no_good_call_refused I O d i o h e = e ∙ ap (λ (v : Verdict). by v (d.work i) (λ j. d.refuse j i)) (zero_from d i h)
 
 -- ---- the pair a-c joins nobody else
 

@@ -5,6 +5,8 @@ use mathlib.Core.Bool.{Bool, true}
 use mathlib.Core.List.{append_assoc}
 use mathlib.Core.Logic.{⊎_elim}
 use native.Mathlib.Omega.{arith}
+use Rattle.std.specs.Prelude.{Result, Ok, Err}
+use Rattle.law.specs.declared.refusal.Refusal.{Refusal}
 use Rattle.law.specs.Limit.{particles}
 use Rattle.law.specs.Room.{enough}
 use Rattle.law.proofs.Room.{enough_of}
@@ -21,17 +23,15 @@ use Rattle.matrix_building.specs.Building.{In, Out, Ready, work}
 use Rattle.matrix_building.proofs.Building.{ready}
 use Rattle.matrix_building.specs.FromPairs as frompairs
 use Rattle.matrix_building.proofs.FromPairs as frompairs_lemmas
-use Rattle.matrix_building.specs.declared.Built.{Built}
-use Rattle.matrix_building.specs.declared.Built.TheVariants.{Refused, Done}
 use Rattle.order_demand3.proofs.Carried.{Alike}
 
 -- ---- an answered call has built
 
-abbrev tag : Built → ℕ
-tag (Refused k) = 0
-tag (Done m) = 1
+abbrev tag : Result ℕ Refusal → ℕ
+tag (Err k) = 0
+tag (Ok m) = 1
 
-apart : (k m : ℕ) → Refused k ≡ Done m → ⊥
+apart : (k : Refusal) (m : ℕ) → ◌≡◌ {A = Result ℕ Refusal} (Err k) (Ok m) → ⊥
 apart k m e = let z : ◌≡◌ {A = ℕ} 0 1 = ap tag e in omega arith
 
 -- what building had, and what it left
@@ -39,20 +39,20 @@ pub record Worked (b : In) (c : Out) : Type 0 where
   pub had : Ready b
   pub left : c ≡ work b
 
-pub pattern_worked : (b : In) (c : Out) → Promise building.door b c → (m : ℕ) → c.answer ≡ Done m → Worked b c
+pub pattern_worked : (b : In) (c : Out) → Promise building.door b c → (m : ℕ) → c.answer ≡ Ok m → Worked b c
 pattern_worked b c h m e =
     let a : IsWork building.door b c =
     ⊎_elim (λ a. a) (λ r. absurd (apart r.0 m (sym (ap (λ (x : Out). x.answer) r.1.1.1) ∙ e))) (work_or_refusal building.door b c h) in
-    record { had = ready b a.0; left = a.1 }
+    record { had = ready b (sym a.0); left = a.1 }
 
-pub values_worked : (b : frompairs.In) (c : frompairs.Out) → Promise frompairs.door b c → (m : ℕ) → c.pattern.answer ≡ Done m
+pub values_worked : (b : frompairs.In) (c : frompairs.Out) → Promise frompairs.door b c → (m : ℕ) → c.pattern.answer ≡ Ok m
     → Worked b.pattern c.pattern
 unfolding frompairs.work
 values_worked b c h m e =
     let a : IsWork frompairs.door b c =
     ⊎_elim (λ a. a) (λ r. absurd (apart r.0 m (sym (ap (λ (x : frompairs.Out). x.pattern.answer) r.1.1.1) ∙ e)))
     (work_or_refusal frompairs.door b c h) in
-    record { had = (frompairs_lemmas.ready b a.0).pattern; left = ap (λ (x : frompairs.Out). x.pattern) a.1 }
+    record { had = (frompairs_lemmas.ready b (sym a.0)).pattern; left = ap (λ (x : frompairs.Out). x.pattern) a.1 }
 
 -- ---- what it left
 

@@ -3,6 +3,7 @@ use mathlib.Core.Path.{◌≡◌, refl, ap}
 use mathlib.Core.Bool.{true}
 use mathlib.Core.List.{[], ◌∷◌}
 use lib.ListN.{replicate}
+use Rattle.std.specs.Prelude.{Ok}
 use Rattle.law.specs.Loop.{fold, over}
 use Rattle.law.specs.Every.{every, some}
 use Rattle.law.specs.Gather.{gather, up_to}
@@ -18,14 +19,12 @@ use Rattle.matrix_pairs.specs.Pairs.{joined, stored_by, Together}
 use Rattle.matrix_build.specs.Build.{built_of}
 use Rattle.matrix_building.specs.Building as building
 use Rattle.matrix_building.specs.Building.{lists_room, refusals as buildRefusals, work as buildWork}
-use Rattle.matrix_building.specs.declared.Built.TheVariants as built
 use Rattle.order_definition.specs.Order.{neighbours, reach, settle, choose_start, fresh, placing, order_of}
 use Rattle.order_definition.specs.Envelope.{first_block, first_col, row_starts}
 use Rattle.order_demand3.specs.Demand.{Demand3}
 use Rattle.plan_make.specs.Plan.{Plan, four, plan_by, plan_of, envelope_length}
 use Rattle.plan_make.specs.Parts.{Work, five}
 use Rattle.plan_doors.specs.Planning.{Out, left, planning_room, early, refusals, length_for, laid_over, cleared, work, door}
-use Rattle.plan_doors.specs.declared.Planned.TheVariants.{Done}
 use Rattle.plan_demand3.specs.Built.{handed}
 use Rattle.plan_demand3.proofs.Whole.{of_pattern_from_pairs}
 
@@ -46,7 +45,7 @@ left_planned : Out
 left_planned = outcome door (handed handed_in left_built plan desk)
 
 -- the pattern that is built
-built_is : left_built ≡ building.left (built.Done 6) (0 ∷ 2 ∷ 3 ∷ 5 ∷ 6 ∷ 7 ∷ []) (0 ∷ 2 ∷ 1 ∷ 0 ∷ 2 ∷ 3 ∷ 7 ∷ []) (0 ∷ 2 ∷ 4 ∷ 5 ∷ 7 ∷ []) (0 ∷ 0 ∷ 7 ∷ [])
+built_is : left_built ≡ building.left (Ok 6) (0 ∷ 2 ∷ 3 ∷ 5 ∷ 6 ∷ 7 ∷ []) (0 ∷ 2 ∷ 1 ∷ 0 ∷ 2 ∷ 3 ∷ 7 ∷ []) (0 ∷ 2 ∷ 4 ∷ 5 ∷ 7 ∷ []) (0 ∷ 0 ∷ 7 ∷ [])
 unfolding handed_in left_built outcome buildRefusals buildWork verdict enough lists_room every some over fold built_of stored_by joined starts_of slots_of
     cols_of start_of slot_of row_of gather up_to
 built_is = refl
@@ -56,7 +55,7 @@ unfolding plan desk enough planning_room
 room = refl
 
 -- the order 2 0 3 1, its inverse, the rows' first columns and starts, and 16 entries; the sevens behind them stay
-plan_is : left_planned ≡ left (Done 16) (four (2 ∷ 0 ∷ 3 ∷ 1 ∷ 7 ∷ []) (1 ∷ 3 ∷ 0 ∷ 2 ∷ 7 ∷ []) (0 ∷ 0 ∷ 0 ∷ 0 ∷ 4 ∷ 4 ∷ 6 ∷ 6 ∷ 7 ∷ [])
+plan_is : left_planned ≡ left (Ok 16) (four (2 ∷ 0 ∷ 3 ∷ 1 ∷ 7 ∷ []) (1 ∷ 3 ∷ 0 ∷ 2 ∷ 7 ∷ []) (0 ∷ 0 ∷ 0 ∷ 0 ∷ 4 ∷ 4 ∷ 6 ∷ 6 ∷ 7 ∷ [])
     (0 ∷ 1 ∷ 3 ∷ 6 ∷ 10 ∷ 11 ∷ 13 ∷ 14 ∷ 16 ∷ 7 ∷ []))
     (five (0 ∷ 0 ∷ 0 ∷ 0 ∷ 7 ∷ []) (0 ∷ 0 ∷ 0 ∷ 0 ∷ 7 ∷ []) (0 ∷ 0 ∷ 0 ∷ 0 ∷ 7 ∷ []) (0 ∷ 0 ∷ 0 ∷ 0 ∷ 7 ∷ []) (0 ∷ 0 ∷ 0 ∷ 0 ∷ 7 ∷ []))
 unfolding handed_in left_built plan desk left_planned outcome buildRefusals buildWork verdict enough lists_room every some over fold built_of stored_by

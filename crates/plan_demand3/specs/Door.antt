@@ -1,6 +1,6 @@
 -- DEMAND 3 OF WHAT THE PLAN'S DOOR LEAVES. The call `plan` was handed i and came to o: o.answer is what it answered,
 -- o.plan the caller's four lists as they then stand. `at l k` is what stands at place k of the list l.
-use Rattle.std.specs.Prelude.{ℕ, ◌*◌, ◌≤◌, ◌≡◌, true}
+use Rattle.std.specs.Prelude.{ℕ, ◌*◌, ◌≤◌, ◌≡◌, true, Ok}
 use Rattle.law.specs.Limit.{particles, envelope}
 use Rattle.law.specs.Room.{enough}
 use Rattle.law.specs.Promise.{Promise}
@@ -11,7 +11,6 @@ use Rattle.order_demand3.specs.Demand.{Demand3}
 use Rattle.plan_fits.specs.Fits.{fits_ok}
 use Rattle.plan_fits.specs.Lists.{Laid}
 use Rattle.plan_doors.specs.Planning.{In, Out, planning_room, length_for, door}
-use Rattle.plan_doors.specs.declared.Planned.TheVariants.{Done}
 
 -- what the call tests, each refusal turned round
 pub record Accepted (i : In) : Type 0 where
@@ -43,8 +42,8 @@ pub record Leaves (i : In) (o : Out) (len : ℕ) : Type 0 where
 
 -- NO PARTICLE DROPS OUT: so it is after every call that answered a length
 abbrev pub NoParticleDropsOut : Type 0
-NoParticleDropsOut = (i : In) (o : Out) → Promise door i o → (len : ℕ) → o.answer ≡ Done len → Leaves i o len
+NoParticleDropsOut = (i : In) (o : Out) → Promise door i o → (len : ℕ) → o.answer ≡ Ok len → Leaves i o len
 
 -- and a call answers a length exactly where its tests pass
 abbrev pub AnsweredExactly : Type 0
-AnsweredExactly = (i : In) (o : Out) → Promise door i o → (Accepted i → o.answer ≡ Done (length_for i)) × ((len : ℕ) → o.answer ≡ Done len → Accepted i)
+AnsweredExactly = (i : In) (o : Out) → Promise door i o → (Accepted i → o.answer ≡ Ok (length_for i)) × ((len : ℕ) → o.answer ≡ Ok len → Accepted i)

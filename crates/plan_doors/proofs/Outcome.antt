@@ -10,7 +10,7 @@ unfolding planning.work planning.refuse
 one_plan = plainly plan.ended _ (λ κs a p.
     of_door planning.door _ _ (λ o. (
       o.answer,
-      past 4 (
+      past 1 (
         o.plan.order,
         (
           o.plan.inverse,

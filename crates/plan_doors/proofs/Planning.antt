@@ -1,16 +1,19 @@
 -- What follows of specs/Planning.antt: its theorems, apart from the definitions.
-use Rattle.std.specs.Prelude.{ℕ, ◌+◌, ◌*◌, ◌<◌, ◌≡◌, Bool, cond, length, take, drop}
+use Rattle.std.specs.Prelude.{ℕ, ◌+◌, ◌*◌, ◌<◌, ◌≡◌, Bool, cond, length, take, drop, Ok, Err}
 use Rattle.std.proofs.Math.Path.{refl, ap}
 use Rattle.std.proofs.Common.{sym, ◌∙◌, take-append-drop, length-take-le, leb-true, ne_eqb}
 use Rattle.std.proofs.Math.Bool.{true, false}
+use Rattle.std.proofs.Math.Logic.{⊎_elim}
 use mathlib.Core.List.{List, [], ◌∷◌, ◌++◌}
 use native.Mathlib.Omega.{arith}
 use Rattle.std.proofs.Math.Dec.{leb}
 use Rattle.law.specs.Limit.{envelope}
-use Rattle.law.specs.Number.{long_envelope}
+use Rattle.law.specs.declared.refusal.Refusal.{Refusal}
+use Rattle.law.specs.declared.refusal.Refusal.TheVariants.{LongEnvelope}
 use Rattle.law.proofs.Room as room_lemmas
-use Rattle.law.specs.Refusal.{unless, verdict}
-use Rattle.law.proofs.Refusals.{all_pass, stops, goes_on, ends, rising_front, decides_early, decides_late, verdict_under}
+use Rattle.law.specs.Number.{number}
+use Rattle.law.specs.Refusal.{Verdict, unless, verdict}
+use Rattle.law.proofs.Refusals.{all_pass, it_fails, decides_early, decides_late, verdict_under}
 use Rattle.law.specs.Promise.{Promise}
 use Rattle.law.proofs.Promise.{refuses, accepts}
 use Rattle.matrix_shape.specs.Given.{pattern}
@@ -18,14 +21,12 @@ use Rattle.order_definition.specs.Tight.{tight_of}
 use Rattle.plan_layout.specs.EachOnce.{order_lists}
 use Rattle.plan_make.specs.Plan.{Plan, four, plan_of}
 use Rattle.plan_make.specs.Parts.{Work, five, Ground, Room, Desk, Made, made, zeros, settled, made_of}
-use Rattle.plan_doors.specs.declared.Planned.{Planned}
-use Rattle.plan_doors.specs.declared.Planned.TheVariants.{Refused, Done}
-use Rattle.plan_doors.specs.Planning.{In, Ready, answered, cleared, door, early, in_order, laid_over, left, length_for, own_cols, own_starts, plan_part, planning_room, refusals, refuse, whole_of, work, work_over, work_part}
+use Rattle.plan_doors.specs.Planning.{In, Ready, cleared, door, early, laid_over, left, length_for, own_cols, own_starts, plan_part, planning_room, refusals, refuse, whole_of, work, work_over, work_part}
 
-pub ready : (i : In) → verdict (early i) ≡ 0 → Ready i
-unfolding early refusals planning_room
+pub ready : (i : In) → Ok tt ≡ verdict (early i) → Ready i
+unfolding early planning_room
 ready i h =
-    let p = all_pass 1 (early i) (omega arith) (rising_front 1 (early i) (unless long_envelope (leb (length_for i) envelope) ∷ []) (in_order i)) h in
+    let p = all_pass (early i) h in
     let e = room_lemmas.enough_is true (planning_room i.n i.plan i.work) p.1.1.0 in
     record {
       pattern = pattern i.n i.row_offsets i.cols i.diagonal (leb-true _ _ p.0) p.1.0 p.1.1.1.0;
@@ -40,35 +41,35 @@ ready i h =
       queue = e.1.1.1.1.1.1.1.1.0;
     }
 
+pub ready_lists : (i : In) → Ready i → Ground i.n (own_starts i) (own_cols i) × (Room i.n (plan_part i.n i.plan) × Desk i.n (work_part i.n i.work))
+ready_lists i r = (
+  record {
+    few = r.pattern.few;
+    pattern = tight_of i.n i.row_offsets i.cols i.diagonal r.pattern;
+    listed = order_lists i.n i.row_offsets i.cols i.diagonal r.pattern;
+  },
+  (
+    record {
+      order = length-take-le _ _ r.order;
+      inverse = length-take-le _ _ r.inverse;
+      first = length-take-le _ _ r.first;
+      rows = length-take-le _ _ r.rows;
+    },
+    record {
+      degrees = length-take-le _ _ r.degrees;
+      placed = length-take-le _ _ r.placed;
+      mark = length-take-le _ _ r.mark;
+      level = length-take-le _ _ r.level;
+      queue = length-take-le _ _ r.queue;
+    },
+  ),
+)
+
 pub ready_parts : (i : In) → Ready i
     → Ground (length (take i.n i.plan.order)) (own_starts i) (own_cols i)
     × (Room (length (take i.n i.plan.order)) (plan_part i.n i.plan) × Desk (length (take i.n i.plan.order))
     (work_part i.n i.work))
-ready_parts i r =
-    rw (length-take-le i.n i.plan.order r.order) (
-      record {
-        few = r.pattern.few;
-        pattern = tight_of i.n i.row_offsets i.cols i.diagonal r.pattern;
-        listed = order_lists i.n
-            i.row_offsets i.cols i.diagonal r.pattern;
-      },
-      (
-        record {
-          order = length-take-le _ _ r.order;
-          inverse = length-take-le _ _ r.inverse;
-          first = length-take-le _ _ r.first;
-          rows
-              = length-take-le _ _ r.rows;
-        },
-        record {
-          degrees = length-take-le _ _ r.degrees;
-          placed = length-take-le _ _ r.placed;
-          mark = length-take-le _ _ r.mark;
-          level = length-take-le _ _ r.level;
-          queue = length-take-le _ _ r.queue;
-        },
-      ),
-    )
+ready_parts i r = rw (length-take-le i.n i.plan.order r.order) (ready_lists i r)
 
 stays : (n : ℕ) (old : Plan) → laid_over n (plan_part n old) old ≡ old
 unfolding laid_over
@@ -103,45 +104,38 @@ whole_is i m len p q x y d e f g h same is =
     ∙ ap (λ (p : Plan). made (length_for i) p (cleared i.n i.work)) (settled_over i.n (length_for i) (plan_of i.n (own_starts i) (own_cols i))
     i.plan)
 
--- ---- the two returns of the door
+-- ---- the returns of the door
 
-module _ (i : In) (r : ℕ) (e : r ≡ verdict (early i)) where
-  under : r < 7
+module _ (i : In) where
+  under : (k : Refusal) → Err k ≡ verdict (early i) → number k < 7
   unfolding early
-  under = rw e (verdict_under 7 (early i) (omega arith) (omega arith, (omega arith, (omega arith, (omega arith, tt)))))
+  under k e = rw (sym e) at (verdict_under 7 (early i) (omega arith) (omega arith, (omega arith, (omega arith, (omega arith, tt)))))
 
-  pub refused_early : (r ≡ 0 → ⊥) → Promise door i (left (Refused r) i.plan i.work)
+  pub refused_early : (k : Refusal) → Err k ≡ verdict (early i) → Promise door i (left (Err k) i.plan i.work)
   unfolding refusals refuse
-  refused_early h =
-      let u = under in
-      let all : r ≡ verdict (refusals i) = e ∙ decides_early (early i) _ (λ z. h (e ∙ z)) in
-      rw (ne_eqb r 7 (λ z. omega arith)) at (refuses door i r all h)
+  refused_early k e =
+      rw (ne_eqb (number k) 7 (λ z. omega (arith, under k e))) at (refuses door i k (decides_early (early i) _ k (sym e)))
 
   -- planning has answered that the envelope is len long, and left plan and work
-  module _ (z : r ≡ 0) (len : ℕ) (plan : Plan) (w : Work) (h : made len plan w ≡ whole_of i) where
+  module _ (e : Ok tt ≡ verdict (early i)) (len : ℕ) (plan : Plan) (w : Work) (h : made len plan w ≡ whole_of i) where
     long : len ≡ length_for i
     unfolding whole_of
     long = ap (λ (m : Made). m.len) h
 
-    late : (k : ℕ) → k ≡ verdict (unless long_envelope (leb (length_for i) envelope) ∷ []) → k ≡ verdict (refusals i)
+    late : (v : Verdict) → v ≡ verdict (unless LongEnvelope (leb len envelope) ∷ []) → v ≡ verdict (refusals i)
     unfolding refusals
-    late k q = q ∙ decides_late 1 (early i) _ (omega arith) (rising_front 1 (early i) _ (in_order i)) (sym e ∙ z)
+    late v q = (rw long at q) ∙ decides_late (early i) _ e
 
-    refused_late : leb (length_for i) envelope ≡ false → Promise door i (left (Refused long_envelope) plan w)
+    pub refused_late : (k : Refusal) → Err k ≡ verdict (unless LongEnvelope (leb len envelope) ∷ []) → Promise door i (left (Err k) plan w)
     unfolding refuse whole_of settled
-    refused_late t = ap (λ (m : Made). left (Refused long_envelope) m.plan m.work) (rw t at h) ∙ refuses door i 7 (late 7 (stops 7 _ [] t))
-        (λ q. omega arith)
+    refused_late k q = ⊎_elim
+        (λ (t : (LongEnvelope ≡ k) × (leb len envelope ≡ false)).
+        let f : leb (length_for i) envelope ≡ false = rw long at t.1 in
+        rw (sym t.0) (ap (λ (m : Made). left (Err LongEnvelope) m.plan m.work) (rw f at h) ∙ refuses door i LongEnvelope (rw (sym t.0) at (late (Err k) q))))
+        (λ t. absurd t) (it_fails (unless LongEnvelope (leb len envelope) ∷ []) k (sym q))
 
-    accepted : leb (length_for i) envelope ≡ true → Promise door i (left (Done len) plan w)
+    pub accepted : Ok tt ≡ verdict (unless LongEnvelope (leb len envelope) ∷ []) → Promise door i (left (Ok len) plan w)
     unfolding work whole_of settled
-    accepted t =
-        accepts door i 0 (late 0 (goes_on 7 _ [] 0 t ends)) refl (left (Done len) plan w) (ap (λ (m : Made). left (Done m.len) m.plan m.work)
-        (rw t at h))
-
-    pub worked : (a : Planned) → a ≡ answered len → Promise door i (left a plan w)
-    unfolding answered
-    worked a q = rw q (go (leb len envelope) (ap (λ (k : ℕ). leb k envelope) (sym long)))
-      where
-        go : (t : Bool) → leb (length_for i) envelope ≡ t → Promise door i (left (cond t (Done len) (Refused long_envelope)) plan w)
-        go true e = accepted e
-        go false e = refused_late e
+    accepted q =
+        let f : leb (length_for i) envelope ≡ true = rw long at (all_pass (unless LongEnvelope (leb len envelope) ∷ []) q).0 in
+        accepts door i (late (Ok tt) q) (left (Ok len) plan w) (ap (λ (m : Made). left (Ok m.len) m.plan m.work) (rw f at h))

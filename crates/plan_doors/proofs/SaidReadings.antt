@@ -11,6 +11,7 @@ use Rattle.law.specs.Promise.{outcome}
 use Rattle.law.specs.Said.{Said, refused, carries}
 use Rattle.matrix_shape.specs.Formed.{slot_ok, home_ok, row_ok, stored, mirrors_ok, starts_ok, well_formed}
 use Rattle.matrix_shape.specs.Given.{pattern_room, formed}
+use Rattle.matrix_shape.specs.Shape.{shape}
 use Rattle.order_definition.specs.Order.{neighbours, reach, settle, choose_start, fresh, placing, order_of}
 use Rattle.order_definition.specs.Envelope.{first_block, first_col, row_starts}
 use Rattle.plan_make.specs.Plan.{four, plan_by, plan_of, envelope_length}
@@ -21,7 +22,7 @@ use Rattle.plan_doors.specs.Planning.{given, planning_room, length_for, early, r
 planned : ℕ → Said
 planned slot =
     let one : List ℕ = 7 ∷ [] in
-    (outcome door (given 1 (0 ∷ 1 ∷ []) (0 ∷ []) (slot ∷ []) (four one one (7 ∷ 7 ∷ []) (7 ∷ 7 ∷ 7 ∷ [])) (five one one one one one))).said
+    (outcome door (given (shape 1 (0 ∷ 1 ∷ []) (0 ∷ []) (slot ∷ [])) (four one one (7 ∷ 7 ∷ []) (7 ∷ 7 ∷ 7 ∷ [])) (five one one one one one))).said
 
 -- a plan says the envelope's length, a refusal its number
 record Readings : Type 0 where

@@ -1,21 +1,22 @@
 -- THE DOOR `plan`: the plan of a pattern.
-use Rattle.std.specs.Prelude.{ℕ, ◌+◌, ◌*◌, ◌≤◌, cond, eqb, length, take, drop, replicate}
+use Rattle.std.specs.Prelude.{ℕ, ◌+◌, ◌*◌, ◌≤◌, cond, eqb, length, take, drop, replicate, Result, Ok, Err}
 use Rattle.std.proofs.Math.Bool.{true}
 use mathlib.Core.List.{List, [], ◌∷◌, ◌++◌}
 use native.Mathlib.Omega.{arith}
 use Rattle.std.proofs.Math.Dec.{leb}
 use Rattle.law.specs.Limit.{particles, envelope}
-use Rattle.law.specs.Number.{too_many_particles, short_buffer, bad_pattern, long_envelope}
+use Rattle.law.specs.declared.refusal.Refusal.{Refusal}
+use Rattle.law.specs.declared.refusal.Refusal.TheVariants.{TooManyParticles, ShortBuffer, BadPattern, LongEnvelope}
+use Rattle.law.specs.Number.{number}
 use Rattle.law.specs.Room as room
 use Rattle.law.specs.Refusal.{Test, unless, Rising}
 use Rattle.law.specs.Promise.{Door}
 use Rattle.law.specs.Said.{Said}
 use Rattle.matrix_shape.specs.Rows.{at, Pattern}
 use Rattle.matrix_shape.specs.Given.{pattern_room, formed}
+use Rattle.matrix_shape.specs.Shape.{Shape}
 use Rattle.plan_make.specs.Plan.{Plan, four, plan_of, envelope_length}
 use Rattle.plan_make.specs.Parts.{Work, five, Made, made, settled}
-use Rattle.plan_doors.specs.declared.Planned.{Planned}
-use Rattle.plan_doors.specs.declared.Planned.TheVariants.{Refused, Done}
 use Rattle.plan_doors.specs.Said.{planned_said}
 
 pub record In : Type 0 where
@@ -27,15 +28,15 @@ pub record In : Type 0 where
   pub work : Work
 
 pub record Out : Type 0 where
-  pub answer : Planned
+  pub answer : Result ℕ Refusal
   pub said : Said
   pub plan : Plan
   pub work : Work
 
-abbrev pub given : ℕ → List ℕ → List ℕ → List ℕ → Plan → Work → In
-given n starts cols diagonal plan work = record { n = n; row_offsets = starts; cols = cols; diagonal = diagonal; plan = plan; work = work }
+abbrev pub given : Shape → Plan → Work → In
+given p plan work = record { n = p.n; row_offsets = p.row_offsets; cols = p.cols; diagonal = p.diagonal; plan = plan; work = work }
 
-abbrev pub left : Planned → Plan → Work → Out
+abbrev pub left : Result ℕ Refusal → Plan → Work → Out
 left r plan work = record { answer = r; said = planned_said r; plan = plan; work = work }
 
 -- the pattern's own part of each list
@@ -66,14 +67,14 @@ planning_room n p w =
 -- THE REFUSALS: those that are known before the work, and the one that the work finds
 unfoldable pub early : In → List Test
 early i =
-    unless too_many_particles (leb i.n particles)
-    ∷ unless short_buffer (room.enough true (pattern_room i.n i.row_offsets i.cols i.diagonal))
-    ∷ unless short_buffer (room.enough true (planning_room i.n i.plan i.work))
-    ∷ unless bad_pattern (formed i.n i.row_offsets i.cols i.diagonal)
+    unless TooManyParticles (leb i.n particles)
+    ∷ unless ShortBuffer (room.enough true (pattern_room i.n i.row_offsets i.cols i.diagonal))
+    ∷ unless ShortBuffer (room.enough true (planning_room i.n i.plan i.work))
+    ∷ unless BadPattern (formed i.n i.row_offsets i.cols i.diagonal)
     ∷ []
 
 unfoldable pub refusals : In → List Test
-refusals i = early i ++ (unless long_envelope (leb (length_for i) envelope) ∷ [])
+refusals i = early i ++ (unless LongEnvelope (leb (length_for i) envelope) ∷ [])
 
 pub in_order : (i : In) → Rising 1 (refusals i)
 unfolding early refusals
@@ -90,16 +91,12 @@ cleared n w =
     let none : List ℕ = replicate n 0 in
     five (none ++ drop n w.degrees) (none ++ drop n w.placed) (none ++ drop n w.mark) (none ++ drop n w.level) (none ++ drop n w.queue)
 
--- the answer once the length is known
-unfoldable pub answered : ℕ → Planned
-answered len = cond (leb len envelope) (Done len) (Refused long_envelope)
-
 unfoldable pub work : In → Out
-work i = left (Done (length_for i)) (laid_over i.n (plan_of i.n (own_starts i) (own_cols i)) i.plan) (cleared i.n i.work)
+work i = left (Ok (length_for i)) (laid_over i.n (plan_of i.n (own_starts i) (own_cols i)) i.plan) (cleared i.n i.work)
 
 -- a refusal changes nothing, except that 7 clears the work lists
-unfoldable pub refuse : ℕ → In → Out
-refuse k i = left (Refused k) i.plan (cond (eqb k 7) (cleared i.n i.work) i.work)
+unfoldable pub refuse : Refusal → In → Out
+refuse k i = left (Err k) i.plan (cond (eqb (number k) 7) (cleared i.n i.work) i.work)
 
 abbrev pub door : Door In Out
 door = record { tests = refusals; in_order = in_order; work = work; refuse = refuse }

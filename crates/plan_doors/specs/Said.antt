@@ -1,9 +1,9 @@
 -- WHAT PLANNING SAYS: the envelope's length.
-use Rattle.std.specs.Prelude.{[], ◌∷◌}
+use Rattle.std.specs.Prelude.{ℕ, [], ◌∷◌, Result, Ok, Err}
+use Rattle.law.specs.declared.refusal.Refusal.{Refusal}
+use Rattle.law.specs.Number.{number}
 use Rattle.law.specs.Said.{Said, refused, carries}
-use Rattle.plan_doors.specs.declared.Planned.{Planned}
-use Rattle.plan_doors.specs.declared.Planned.TheVariants as planned
 
-abbrev pub planned_said : Planned → Said
-planned_said (planned.Refused k) = refused k
-planned_said (planned.Done len) = carries 0 (len ∷ []) []
+abbrev pub planned_said : Result ℕ Refusal → Said
+planned_said (Err k) = refused (number k)
+planned_said (Ok len) = carries 0 (len ∷ []) []

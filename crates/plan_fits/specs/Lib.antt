@@ -3,3 +3,4 @@ pub mod Lists
 pub mod Cells
 pub mod Same
 pub mod Given
+pub mod Layout

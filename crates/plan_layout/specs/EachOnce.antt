@@ -2,6 +2,8 @@
 use Rattle.std.specs.Prelude.{ℕ, zero, suc, ◌+◌, ◌≤◌, ◌<◌, ◌≡◌, refl, Bool, true, false, List, [], ◌∷◌, eqb, length, set}
 use Rattle.std.proofs.Common.{sym, ap, ◌∙◌, arith, get_or-set_same, get_or-set_other, below_more, eqb-true}
 use Rattle.std.proofs.lemmas.Bool.{eqb-false}
+use Rattle.std.specs.Coded.{×_prop, le_prop, Coded-set, coded_ℕ}
+use mathlib.Core.HLevel.{Σ_prop_path}
 use Rattle.law.specs.Gather.{table}
 use Rattle.law.proofs.Gather.{table_of}
 use Rattle.matrix_shape.specs.Rows.{at, Pattern}
@@ -14,6 +16,18 @@ pub record EachOnce (n : ℕ) (o : List ℕ) : Type 0 where
   pub below : (i : ℕ) → i < n → at o i < n
   pub once : (i j : ℕ) → i < n → j < n → at o i ≡ at o j → i ≡ j
   pub listed : (q : ℕ) → q < n → (i : ℕ) × ((i < n) × (at o i ≡ q))
+
+-- there is but one proof of it, since a number stands at one place
+pub EachOnce-prop : (n : ℕ) (o : List ℕ) → IsProp (EachOnce n o)
+EachOnce-prop n o t u i = record {
+  long = Coded-set coded_ℕ _ _ t.long u.long i;
+  below = λ k h. le_prop (t.below k h) (u.below k h) i;
+  once = λ j k h g e. Coded-set coded_ℕ _ _ (t.once j k h g e) (u.once j k h g e) i;
+  listed = λ q h. one q h (t.listed q h) (u.listed q h) i;
+}
+  where
+    one : (q : ℕ) → q < n → (a b : (i : ℕ) × ((i < n) × (at o i ≡ q))) → a ≡ b
+    one q h a b = Σ_prop_path (λ k. ×_prop le_prop (Coded-set coded_ℕ _ _)) (t.once a.0 b.0 a.1.0 b.1.0 (a.1.1 ∙ sym b.1.1))
 
 -- the place of a number is the first at which it stands
 abbrev First : List ℕ → ℕ → ℕ → Type 0

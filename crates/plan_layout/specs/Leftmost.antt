@@ -1,19 +1,19 @@
 -- THE BLOCK COLUMN WHERE A PLACE'S ROWS START, as a walk over the whole row of its particle finds it.
 -- The row's own block stands at the place itself, so to look at it too changes nothing.
-use Prim.Native.Nat.{ℕ, ◌+◌, ◌-◌, ◌*◌, ◌/◌, ◌≤◌}
+use Prim.Native.Nat.{ℕ, ◌+◌, ◌-◌, ◌*◌, ◌/◌, ◌≤◌, ◌<◌}
 use Rattle.std.specs.Prelude.{◌≡◌, Bool, true, false, not, cond, ltb, eqb, get_or, take}
 use Rattle.std.proofs.Math.Path.{refl, sym, ap}
-use Rattle.std.proofs.Common.{◌∙◌, arith, get_or-drop, eqb-true, ltb-true, le-ltb}
+use Rattle.std.proofs.Common.{◌∙◌, arith, drop, drop-cons, get_or-drop, eqb-true, ltb-true, le-ltb}
 use mathlib.Core.List.{List, [], ◌∷◌}
 use Rattle.std.proofs.Math.Numerals.{add-one}
-use Rattle.std.proofs.Math.ListN.{length}
+use Rattle.std.proofs.Math.ListN.{length, drop_of_length-le}
 use Rattle.std.proofs.Math.Seq.{slice, length-slice, get_or-take}
 use Rattle.law.specs.Loop.{over}
 use Rattle.law.proofs.Loop.{over_shift}
 use Rattle.law.specs.Along.{along}
 use Rattle.law.proofs.Along.{over_list}
 use Rattle.matrix_shape.specs.Rows.{at}
-use Rattle.order_definition.specs.Order.{passing, neighbours}
+use Rattle.order_definition.specs.Order.{passing, row, neighbours}
 use Rattle.order_definition.specs.Envelope.{place_of, lesser, leftmost, first_block, first_col}
 
 -- over the slots of row v, from b
@@ -95,3 +95,30 @@ first_odd s c o i = ap (λ (k : ℕ). 2 * first_block s c o k) (omega arith)
 pub col_most : (s c o : List ℕ) (r : ℕ) → first_col s c o r ≤ r
 unfolding first_col
 col_most s c o r = omega (arith, first_most s c o (r / 2))
+
+-- ---- the walk along a row that is lent as a list; p has the place of each
+
+unfoldable pub along_row : (ℕ → ℕ) → ℕ → List ℕ → ℕ
+along_row p b row = along (λ x b. lesser b (p x)) b row
+
+pub row_walked : (s c : List ℕ) (p : ℕ → ℕ) (v b : ℕ) → at s v ≤ at s (v + 1) → at s (v + 1) ≤ length c → along_row p b (row s c v) ≡ walked s c p v b
+unfolding along_row walked
+row_walked s c p v b rise room =
+    let a = at s v in
+    let e = at s (v + 1) in
+    let f : ℕ → ℕ → ℕ = λ x b. lesser b (p x) in
+    let long : length (slice a e c) ≡ e - a = length-slice a e c room in
+    let all = sym (over_list f 0 (slice a e c) b) in
+    let cut = over_shift (λ k. f (get_or (slice a e c) k 0)) (λ k. f (at c k)) a e b
+    (λ k b h. ap (λ (x : ℕ). lesser b (p x)) (get_or-drop a (take e c) k 0 ∙ get_or-take e c (a + k) 0 (omega arith))) in
+    rw (← add-one v) (all ∙ (rw long cut))
+
+-- one more of the row is looked at
+pub along_more : (p : ℕ → ℕ) (b : ℕ) (l : List ℕ) (k : ℕ) → k < length l
+    → along_row p b (drop k l) ≡ along_row p (lesser b (p (at l k))) (drop (k + 1) l)
+unfolding along_row along
+along_more p b l k h = rw (add-one k, drop-cons l k 0 h)
+
+pub along_none : (p : ℕ → ℕ) (b : ℕ) (l : List ℕ) (k : ℕ) → length l ≤ k → along_row p b (drop k l) ≡ b
+unfolding along_row along
+along_none p b l k h = rw (drop_of_length-le l h)

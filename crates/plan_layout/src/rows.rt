@@ -1,73 +1,57 @@
 // The envelope's rows. A place has two, and both start at the leftmost block that its particle stores.
+// Where a loop goes by a place's number, the number stands in what it works out: its rows are 2i and 2i + 1.
 ghost use Rattle.std.specs.Prelude.{◌≡◌, ℕ, ◌+◌, ◌*◌, ◌≤◌, ◌<◌, length};
 ghost use Rattle.law.specs.Gather.{table};
 ghost use Rattle.law.specs.Limit.{particles};
 ghost use Rattle.matrix_shape.specs.Rows.{at};
-ghost use Rattle.order_definition.specs.Envelope.{lesser, first_block, first_col};
-ghost use Rattle.plan_layout.specs.Leftmost.{walked, Started};
+ghost use Rattle.order_definition.specs.Keys.{Below};
+ghost use Rattle.plan_layout.specs.Leftmost.{along_row, Started};
 ghost use Rattle.plan_layout.specs.Starts.{start_at};
-ghost use Rattle.plan_layout.specs.Laid.{Laid, Walk};
+ghost use Rattle.plan_layout.specs.Ordering.{block_at, col_at};
 
-fn lesser(a: usize, b: usize) -> usize
-    ensures { result ≡ lesser a b }
-{
-    if b < a {
-        return b;
-    }
-    a
-}
+use crate::ordered::Ordered;
 
-// The least of b and the places of row v's columns.
-fn leftmost(row_offsets: &[u32], cols: &[u32], inverse: &[u32], v: usize, b: usize) -> usize
-    requires { Walk row_offsets.now cols.now inverse.now v }
-    ensures { result ≡ walked row_offsets.now cols.now (at inverse.now) v b }
+// The least of b and the places of a row's particles.
+fn leftmost(row: &[u32], inverse: &[u32], b: usize) -> usize
+    requires { Below (length inverse.now) row.now }
+    ensures { result ≡ along_row (at inverse.now) b row.now }
 {
-    let from = law::wide(row_offsets[v]);
-    let to = law::wide(row_offsets[v + 1]);
     let mut least = b;
-    for k in from..to {
-        let c = law::wide(cols[k]);
-        least = lesser(least, law::wide(inverse[c]));
+    for c in row {
+        least = least.min(law::wide(inverse[law::wide(*c)]));
     }
     least
 }
 
 // The block column where the rows of place i start.
-fn first_block(row_offsets: &[u32], cols: &[u32], order: &[u32], inverse: &[u32], i: usize) -> usize
-    requires { Laid (length order.now) row_offsets.now cols.now order.now inverse.now × (i < length order.now) }
-    ensures { Started (first_block row_offsets.now cols.now order.now i) i result }
+fn first_block(ordered: &Ordered, i: usize) -> usize
+    requires { i < ordered.now.graph.n }
+    ensures { Started (block_at ordered.now i) i result }
 {
-    leftmost(row_offsets, cols, inverse, law::wide(order[i]), i)
+    let v = law::wide(ordered.order[i]);
+    leftmost(ordered.graph.row(v), ordered.inverse, i)
 }
 
 // How long the envelope is.
-pub fn envelope(row_offsets: &[u32], cols: &[u32], order: &[u32], inverse: &[u32]) -> usize
-    requires { Laid (length order.now) row_offsets.now cols.now order.now inverse.now }
-    ensures { result ≡ start_at (first_col row_offsets.now cols.now order.now) (2 * length order.now) }
+pub fn envelope(ordered: &Ordered) -> usize
+    ensures { result ≡ start_at (col_at ordered.now) (2 * ordered.now.graph.n) }
 {
     let mut len: usize = 0;
-    for i in 0..order.len() {
-        let b = first_block(row_offsets, cols, order, inverse, i);
+    for i in 0..ordered.graph.n {
+        let b = first_block(ordered, i);
         len = len + (4 * i - 4 * b + 3);
     }
     len
 }
 
 // The column where each row starts.
-pub fn fill_first(
-    row_offsets: &[u32],
-    cols: &[u32],
-    order: &[u32],
-    inverse: &[u32],
-    first: &mut [u32],
-)
-    requires { Laid (length order.now) row_offsets.now cols.now order.now inverse.now × (length first.old ≡ 2 * length order.now) }
-    ensures { first.new ≡ table
-        (first_col row_offsets.now cols.now order.now)
-        (2 * length order.now) }
+pub fn fill_first(ordered: &Ordered, first: &mut [u32])
+    requires { length first.old ≡ 2 * ordered.now.graph.n }
+    ensures { first.new ≡ table (col_at ordered.now) (2 * ordered.now.graph.n) }
 {
-    for i in 0..order.len() {
-        let col = (2 * first_block(row_offsets, cols, order, inverse, i)) as u32;
+    for i in 0..ordered.graph.n {
+        // The cast is proved to fit, as those below are; try_from would answer an error that can't be.
+        let col = (2 * first_block(ordered, i)) as u32;
         first[2 * i] = col;
         first[2 * i + 1] = col;
     }
@@ -80,9 +64,9 @@ pub fn fill_starts(first: &[u32], row_start: &mut [u32])
     ensures { row_start.new ≡ table (start_at (at first.now)) (length first.now + 1) }
 {
     let mut next: u32 = 0;
-    for r in 0..first.len() {
+    for (r, f) in first.iter().enumerate() {
         row_start[r] = next;
-        next = next + (r as u32 - first[r] + 1);
+        next = next + (r as u32 - f + 1);
     }
     row_start[first.len()] = next;
 }

@@ -12,6 +12,7 @@ use Rattle.matrix_shape.specs.Rows.{at}
 use Rattle.order_definition.specs.Order.{order_of}
 use Rattle.order_definition.specs.Envelope.{place_of, first_col, row_starts}
 use Rattle.order_definition.specs.Tight.{Tight}
+use Rattle.order_search.specs.declared.graph.Graph.{Graph}
 use Rattle.plan_layout.specs.EachOnce.{EachOnce}
 use Rattle.plan_layout.specs.Leftmost.{col_most}
 use Rattle.plan_layout.specs.Starts.{start_at, start_same, starts_are}
@@ -151,3 +152,24 @@ module _ (n : ℕ) (s c : List ℕ) (g : Ground n s c) (len : ℕ) (l q : List �
   made_is old plan work k b j d =
       let a : len ≡ envelope_length n s c = rw same at h.long in
       rw (d, b, a, length_q n s c g q n refl order_is, order_is, j)
+
+-- ---- over a graph as it is lent
+
+abbrev pub order_over : Graph → List ℕ
+order_over g = order_of g.n g.row_offsets.now g.cols.now
+
+pub ground : (g : Graph) → EachOnce g.n (order_over g) → Ground g.n g.row_offsets.now g.cols.now
+ground g l = record { few = g.few; pattern = g.tight; listed = l }
+
+pub order_met : (g : Graph) (l : EachOnce g.n (order_over g)) (q inverse : List ℕ) (len : ℕ) → q ≡ order_over g → inverse ≡ table (place_of q) g.n
+    → len ≡ start_at (first_col g.row_offsets.now g.cols.now q) (2 * g.n) → Measured g.n g.row_offsets.now g.cols.now len inverse q
+order_met g l q inverse len is p e =
+    order_measured _ _ _ (ground g l) q g.n refl is inverse len p
+    (e ∙ ap (λ (k : ℕ). start_at (first_col g.row_offsets.now g.cols.now q) (2 * k)) (sym (order_listed _ _ _ (ground g l) q g.n refl is).long))
+
+pub made_met : (g : Graph) (l : EachOnce g.n (order_over g)) (q inverse : List ℕ) (len : ℕ) → Measured g.n g.row_offsets.now g.cols.now len inverse q
+    → (old plan : Plan) (work : Work) → plan ≡ settled len (plan_by g.n g.row_offsets.now g.cols.now q) old → work ≡ zeros g.n
+    → made len plan work ≡ made_of g.n g.row_offsets.now g.cols.now old
+made_met g l q inverse len h old plan work e z =
+    made_is _ _ _ (ground g l) len inverse q g.n refl h old plan work g.n
+    (e ∙ ap (λ (k : ℕ). settled len (plan_by k g.row_offsets.now g.cols.now q) old) (sym (order_listed _ _ _ (ground g l) q g.n refl h.order).long)) refl z

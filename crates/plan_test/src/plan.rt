@@ -1,24 +1,27 @@
-// Whether four lists are a plan, in phases: order, inverse and first columns, then row starts. Each reads only what is known to be there.
+// Whether a plan's lists keep its rules, in phases: order, inverse and first columns, then row starts. Each reads only what is known to be there.
+// The loops gather with `&` and go to their end: a test that stops at the first fault (`all`) is a branch for each entry, and the whole can't run in vectors.
 ghost use Rattle.std.specs.Prelude.{◌≡◌, ◌+◌, ◌*◌, ◌≤◌, ◌<◌, length};
 ghost use Rattle.law.specs.Every.{every};
 ghost use Rattle.law.specs.Limit.{particles};
 ghost use Rattle.matrix_shape.specs.Rows.{at};
-ghost use Rattle.plan_fits.specs.Fits.{back_ok, undo_ok, twins_ok, firsts_ok, plan_rules_ok};
-ghost use Rattle.plan_fits.specs.Lists.{Laid, Lows};
+ghost use Rattle.plan_fits.specs.Fits.{back_ok, undo_ok, twins_ok, firsts_ok};
+ghost use Rattle.plan_fits.specs.Layout.{IsLaid, is_planned, plan_lists};
+ghost use Rattle.plan_fits.specs.Lists.{Lows};
 ghost use Rattle.plan_test.specs.Quick.{step_ok};
 
+use plan_fits::plan::Plan;
+
 // What `a` has at i is below n, and `b` leads from there back to i.
+#[tactic(auto, unfolding(plan_fits::specs::Fits::back_ok))]
 fn back_ok(n: usize, a: &[u32], b: &[u32], i: usize) -> bool
     requires { (i < length a.now) × (n ≤ length b.now) }
     ensures { result ≡ back_ok n (at a.now) (at b.now) i }
 {
     let q = law::wide(a[i]);
-    if n <= q {
-        return false;
-    }
-    law::wide(b[q]) == i
+    (q < n) && (law::wide(b[q]) == i)
 }
 
+#[tactic(auto, unfolding(plan_fits::specs::Fits::undo_ok), using(law::proofs::Every::every_none, law::proofs::Every::every_more))]
 fn undoes(n: usize, a: &[u32], b: &[u32]) -> bool
     requires { (n ≤ length a.now) × (n ≤ length b.now) }
     ensures { result ≡ undo_ok n (at a.now) (at b.now) }
@@ -31,6 +34,7 @@ fn undoes(n: usize, a: &[u32], b: &[u32]) -> bool
 }
 
 // Both rows of position i start at the same even column, at most 2i.
+#[tactic(auto, unfolding(plan_fits::specs::Fits::twins_ok))]
 fn twins_ok(first: &[u32], i: usize) -> bool
     requires { (i < particles) × (2 * i + 1 < length first.now) }
     ensures { result ≡ twins_ok (at first.now) i }
@@ -41,6 +45,7 @@ fn twins_ok(first: &[u32], i: usize) -> bool
     (a == b) & (a % 2 == 0) & (a <= row as u32)
 }
 
+#[tactic(auto, unfolding(plan_fits::specs::Fits::firsts_ok), using(law::proofs::Every::every_none, law::proofs::Every::every_more))]
 fn firsts_ok(n: usize, first: &[u32]) -> bool
     requires { (n ≤ particles) × (2 * n ≤ length first.now) }
     ensures { result ≡ firsts_ok n (at first.now) }
@@ -53,6 +58,7 @@ fn firsts_ok(n: usize, first: &[u32]) -> bool
 }
 
 // Row r is as long as it has columns from its first to its diagonal, with its start taken to 31 bits.
+#[tactic(auto, unfolding(crate::specs::Quick::step_ok))]
 fn step_ok(first: &[u32], row_start: &[u32], r: usize) -> bool
     requires { (r < 2 * particles) × (r < length first.now) × (r + 1 < length row_start.now) × (at first.now r ≤ r) }
     ensures { result ≡ step_ok (at first.now) (at row_start.now) r }
@@ -63,6 +69,7 @@ fn step_ok(first: &[u32], row_start: &[u32], r: usize) -> bool
     b == a + (r as u32 - f + 1)
 }
 
+#[tactic(auto, using(law::proofs::Every::every_none, law::proofs::Every::every_more))]
 fn steps_ok(rows: usize, first: &[u32], row_start: &[u32]) -> bool
     requires { Lows rows first.now row_start.now }
     ensures { result ≡ every (step_ok (at first.now) (at row_start.now)) 0 rows }
@@ -75,13 +82,10 @@ fn steps_ok(rows: usize, first: &[u32], row_start: &[u32]) -> bool
 }
 
 // The plan's rules that ask for no pattern. What the order undoes undoes the order.
-pub fn plan_ok(n: usize, perm: &[u32], inv_perm: &[u32], first: &[u32], row_start: &[u32]) -> bool
-    requires { Laid n perm.now inv_perm.now first.now row_start.now }
-    ensures { result ≡ plan_rules_ok n (at perm.now) (at inv_perm.now) (at first.now) (at row_start.now) }
+pub fn plan_ok(n: usize, plan: &Plan) -> bool
+    requires { IsLaid n (plan_lists plan.now) }
+    ensures { result ≡ is_planned n (plan_lists plan.now) }
 {
-    let ok = undoes(n, perm, inv_perm) & firsts_ok(n, first);
-    if !ok {
-        return false;
-    }
-    (row_start[0] == 0) & steps_ok(2 * n, first, row_start)
+    let ok = undoes(n, plan.perm, plan.inv_perm) & firsts_ok(n, plan.first);
+    ok && ((plan.row_start[0] == 0) & steps_ok(2 * n, plan.first, plan.row_start))
 }

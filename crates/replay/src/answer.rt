@@ -1,6 +1,6 @@
-// The operations. Each takes the numbers of its line and writes its answer to the buffer, or answers 0 where they are not as
+// The operations. Each takes the numbers of its line and writes its answer to the buffer, or answers None where they are not as
 // many as it takes.
-ghost use Rattle.std.specs.Prelude.{◌+◌, ◌≤◌, ◌<◌, length};
+ghost use Rattle.std.specs.Prelude.{◌+◌, ◌≤◌, ◌<◌, length, IfSome};
 ghost use Rattle.replay_tokens.specs.Room.{room};
 
 use replay_tokens::print::{Room, end, float, floats, unknown};
@@ -18,131 +18,98 @@ fn block(w: &[u32], at: usize) -> [[f32; 2]; 2]
     [vector(w, at), vector(w, at + 2)]
 }
 
-fn root(w: &[u32], out: &mut Room) -> usize
-    ensures { result ≤ room }
+fn root(w: &[u32], out: &mut Room) -> Option<usize>
+    ensures { IfSome result (λ at. at ≤ room) }
 {
     if w.len() != 1 {
-        return 0;
+        return None;
     }
-    float(root::root(real(w[0])), out, 0)
+    Some(float(root::root(real(w[0])), out, 0))
 }
 
-fn dot(w: &[u32], out: &mut Room) -> usize
-    ensures { result ≤ room }
+fn dot(w: &[u32], out: &mut Room) -> Option<usize>
+    ensures { IfSome result (λ at. at ≤ room) }
 {
     if w.len() != 4 {
-        return 0;
+        return None;
     }
-    float(plane::dot(vector(w, 0), vector(w, 2)), out, 0)
+    Some(float(plane::dot(vector(w, 0), vector(w, 2)), out, 0))
 }
 
-fn times(w: &[u32], out: &mut Room) -> usize
-    ensures { result ≤ room }
+fn times(w: &[u32], out: &mut Room) -> Option<usize>
+    ensures { IfSome result (λ at. at ≤ room) }
 {
     if w.len() != 6 {
-        return 0;
+        return None;
     }
-    floats(&plane::times(block(w, 0), vector(w, 4)), out, 0)
+    Some(floats(&plane::times(block(w, 0), vector(w, 4)), out, 0))
 }
 
-fn determinant(w: &[u32], out: &mut Room) -> usize
-    ensures { result ≤ room }
+fn determinant(w: &[u32], out: &mut Room) -> Option<usize>
+    ensures { IfSome result (λ at. at ≤ room) }
 {
     if w.len() != 4 {
-        return 0;
+        return None;
     }
-    float(plane::determinant(block(w, 0)), out, 0)
+    Some(float(plane::determinant(block(w, 0)), out, 0))
 }
 
-fn inverse(w: &[u32], out: &mut Room) -> usize
-    ensures { result ≤ room }
+fn inverse(w: &[u32], out: &mut Room) -> Option<usize>
+    ensures { IfSome result (λ at. at ≤ room) }
 {
     if w.len() != 4 {
-        return 0;
+        return None;
     }
     let r = plane::inverse(block(w, 0));
     let at = floats(&r[0], out, 0);
-    floats(&r[1], out, at)
+    Some(floats(&r[1], out, at))
 }
 
-// The operation of a name, by twos and threes; 0 where no operation has it.
-fn scalar(name: &[u8], w: &[u32], out: &mut Room) -> usize
-    ensures { result ≤ room }
+// The operations that take plain numbers alone; None where none of them has the name.
+fn plain(name: &[u8], w: &[u32], out: &mut Room) -> Option<usize>
+    ensures { IfSome result (λ at. at ≤ room) }
 {
-    if check::same(name, b"root") {
-        return root(w, out);
+    match name {
+        b"root" => root(w, out),
+        b"dot" => dot(w, out),
+        b"determinant" => determinant(w, out),
+        b"times" => times(w, out),
+        b"inverse" => inverse(w, out),
+        b"plan" => replay_plan::operation::plan(w, out),
+        _ => None,
     }
-    if check::same(name, b"dot") {
-        return dot(w, out);
-    }
-    if check::same(name, b"determinant") {
-        return determinant(w, out);
-    }
-    0
 }
 
-fn planar(name: &[u8], w: &[u32], out: &mut Room) -> usize
-    ensures { result ≤ room }
+// The first that has the name answers.
+fn operate(name: &[u8], w: &[u32], out: &mut Room) -> Option<usize>
+    ensures { IfSome result (λ at. at ≤ room) }
 {
-    if check::same(name, b"times") {
-        return times(w, out);
+    if let Some(at) = plain(name, w, out) {
+        return Some(at);
     }
-    if check::same(name, b"inverse") {
-        return inverse(w, out);
+    if let Some(at) = replay_gradient::operation::operate(name, w, out) {
+        return Some(at);
     }
-    0
-}
-
-fn matrix(name: &[u8], w: &[u32], out: &mut Room) -> usize
-    ensures { result ≤ room }
-{
-    if check::same(name, b"plan") {
-        return replay_plan::operation::plan(w, out);
+    if let Some(at) = replay_step::operation::operate(name, w, out) {
+        return Some(at);
     }
-    let direct = replay_direct::operation::operate(name, w, out);
-    if direct > 0 {
-        return direct;
+    if let Some(at) = replay_columns::operation::operate(name, w, out) {
+        return Some(at);
+    }
+    if let Some(at) = replay_direct::operation::operate(name, w, out) {
+        return Some(at);
     }
     replay_matrix::operation::operate(name, w, out)
 }
 
-fn operate(name: &[u8], w: &[u32], out: &mut Room) -> usize
-    ensures { result ≤ room }
-{
-    let single = scalar(name, w, out);
-    if single > 0 {
-        return single;
-    }
-    let several = planar(name, w, out);
-    if several > 0 {
-        return several;
-    }
-    let iterated = replay_gradient::operation::operate(name, w, out);
-    if iterated > 0 {
-        return iterated;
-    }
-    let stepped = replay_step::operation::operate(name, w, out);
-    if stepped > 0 {
-        return stepped;
-    }
-    let combined = replay_columns::operation::operate(name, w, out);
-    if combined > 0 {
-        return combined;
-    }
-    matrix(name, w, out)
-}
-
 pub fn answer(line: &[u8], words: &mut [u32], out: &mut Room) {
     let k = gap(line, 0);
-    let count = numbers(line, k, words);
-    if count > words.len() {
+    let Some(count) = numbers(line, k, words) else {
         unknown(out);
         return;
+    };
+    match operate(&line[..k], &words[..count], out) {
+        Some(at) if at > 0 => end(out, at),
+        _ => unknown(out),
     }
-    let at = operate(&line[0..k], &words[0..count], out);
-    if at == 0 {
-        unknown(out);
-        return;
-    }
-    end(out, at);
 }

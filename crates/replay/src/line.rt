@@ -38,11 +38,8 @@ fn steps(chunk: &[u8], line: &mut [u8], n: usize, words: &mut [u32], out: &mut R
     ensures { result ≤ length line.old }
 {
     let mut at = n;
-    let mut i = 0usize;
-    while i < chunk.len() {
-        let next = step(chunk[i], line, at, words, out);
-        at = next;
-        i += 1;
+    for b in chunk {
+        at = step(*b, line, at, words, out);
     }
     at
 }

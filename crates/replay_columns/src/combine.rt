@@ -1,29 +1,33 @@
 // A response combined from a line's columns, and a particle's block.
-ghost use Rattle.std.specs.Prelude.{◌≤◌};
+ghost use Rattle.std.specs.Prelude.{◌≤◌, IfSome};
 ghost use Rattle.replay_tokens.specs.Room.{room};
 
-use crate::ending::{blocked, combined, of_block, of_combined};
+use crate::ending::{of_block, of_combined};
+use crate::table::table;
 use law::wide;
 use replay_tokens::list::{
     LONGEST, WORDS, as_reals, filled, lent_bytes, lent_reals, plain, reals, wholes,
 };
 use replay_tokens::print::{Room, float_list};
+use replay_tokens::verdict::first_words;
+use step_entries::entries::Entries;
 
 fn call_combine(w: &[u32], line: &[f32], pinned: &[u8], sum: &mut [f32], out: &mut Room) -> usize
     ensures { result ≤ room }
 {
+    let entries = Entries {
+        count: wide(plain(w, 2)),
+        particles: wholes(w, 3, 3),
+        gradients: reals(w, line, 3, 4),
+    };
     let answer = columns_doors::response_from_columns(
         wide(plain(w, 0)),
-        pinned,
-        wide(plain(w, 1)),
-        wholes(w, 3, 1),
+        &table(w, 1, pinned, 3, 1),
         reals(w, line, 3, 2),
-        wide(plain(w, 2)),
-        wholes(w, 3, 3),
-        reals(w, line, 3, 4),
+        &entries,
         sum,
     );
-    let mut to = combined(answer, out);
+    let mut to = first_words(&answer, out);
     to = float_list(sum, out, to);
     of_combined(answer, out, to)
 }
@@ -33,14 +37,12 @@ fn call_block(w: &[u32], line: &[f32], pinned: &[u8], copy: &mut [f32], out: &mu
 {
     let answer = columns_doors::particle_block_from_columns(
         wide(plain(w, 0)),
-        pinned,
-        wide(plain(w, 1)),
-        wholes(w, 3, 1),
+        &table(w, 1, pinned, 3, 1),
         reals(w, line, 3, 2),
         wide(plain(w, 2)),
         copy,
     );
-    let mut to = blocked(answer, out);
+    let mut to = first_words(&answer, out);
     to = float_list(copy, out, to);
     of_block(answer, out, to)
 }
@@ -63,20 +65,20 @@ fn lend(entries: bool, w: &[u32], lists: usize, out: &mut Room) -> usize
     }
 }
 
-pub fn response_from_columns(w: &[u32], out: &mut Room) -> usize
-    ensures { result ≤ room }
+pub fn response_from_columns(w: &[u32], out: &mut Room) -> Option<usize>
+    ensures { IfSome result (λ at. at ≤ room) }
 {
     if !filled(w, 3, 6) {
-        return 0;
+        return None;
     }
-    lend(true, w, 5, out)
+    Some(lend(true, w, 5, out))
 }
 
-pub fn particle_block_from_columns(w: &[u32], out: &mut Room) -> usize
-    ensures { result ≤ room }
+pub fn particle_block_from_columns(w: &[u32], out: &mut Room) -> Option<usize>
+    ensures { IfSome result (λ at. at ≤ room) }
 {
     if !filled(w, 3, 4) {
-        return 0;
+        return None;
     }
-    lend(false, w, 3, out)
+    Some(lend(false, w, 3, out))
 }

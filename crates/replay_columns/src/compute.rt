@@ -1,17 +1,18 @@
 // The columns computed. The lists that it works in are lent by threes, since what a function knows makes each of its steps dear to check.
-ghost use Rattle.std.specs.Prelude.{◌≤◌};
+ghost use Rattle.std.specs.Prelude.{◌≤◌, IfSome};
 ghost use Rattle.replay_tokens.specs.Room.{room};
 
-use crate::ending::{computed, of_computed};
-use columns_make::Reckoned;
-use law::wide;
+use crate::ending::of_computed;
+use crate::table::table;
+use columns_make::Ended;
+use law::refusal::Refusal;
 use replay_gradient::ending::show;
+use replay_step::lines::system;
 use replay_tally::record;
-use replay_tokens::list::{
-    LONGEST, WORDS, as_reals, filled, lent_bytes, lent_reals, plain, reals, wholes,
-};
+use replay_tokens::list::{LONGEST, WORDS, as_reals, filled, lent_bytes, lent_reals};
 use replay_tokens::print::{Room, float_list};
-use replay_tokens::word::real;
+use replay_tokens::verdict::first_words;
+use step_tally::Tally;
 
 // The call, with what the line gives it.
 fn made(
@@ -25,26 +26,11 @@ fn made(
     direction: &mut [f32],
     a_direction: &mut [f32],
     z: &mut [f32],
-) -> Reckoned {
-    columns_make::inner::compute_columns(
-        wide(plain(w, 0)),
-        wholes(w, 6, 0),
-        wholes(w, 6, 1),
-        wholes(w, 6, 2),
-        reals(w, line, 6, 3),
-        wholes(w, 6, 4),
-        wholes(w, 6, 5),
-        wholes(w, 6, 6),
-        wholes(w, 6, 7),
-        reals(w, line, 6, 8),
-        plain(w, 4) != 0,
-        reals(w, line, 6, 9),
-        real(plain(w, 2)),
-        wide(plain(w, 1)),
-        wide(plain(w, 3)),
-        pinned,
-        wide(plain(w, 5)),
-        wholes(w, 6, 11),
+    tally: &mut Tally,
+) -> Result<Ended, Refusal> {
+    columns_doors::compute_columns(
+        &system(w, line, 6),
+        &table(w, 5, pinned, 6, 11),
         columns,
         rhs,
         scratch,
@@ -52,13 +38,14 @@ fn made(
         direction,
         a_direction,
         z,
-        record::read(w, 6, 19),
+        tally,
     )
 }
 
 // The verdict, the lists and the counts as they stand afterwards, and how the solves ended.
 fn tell(
-    after: Reckoned,
+    answer: Result<Ended, Refusal>,
+    tally: Tally,
     columns: &[f32],
     rhs: &[f32],
     scratch: &[f32],
@@ -70,13 +57,11 @@ fn tell(
 ) -> usize
     ensures { result ≤ room }
 {
-    let answer = after.answer;
-    let record = after.tally;
-    let mut to = computed(answer, out);
+    let mut to = first_words(&answer, out);
     to = float_list(columns, out, to);
     to = float_list(rhs, out, to);
     to = show(scratch, residual, direction, a_direction, z, out, to);
-    to = record::show(record, out, to);
+    to = record::show(tally, out, to);
     of_computed(answer, out, to)
 }
 
@@ -96,7 +81,8 @@ fn call(
 {
     let mut pinned = [0u8; LONGEST];
     let i = lent_bytes(w, 6, 10, &mut pinned);
-    let after = made(
+    let mut tally = record::read(w, 6, 19);
+    let answer = made(
         w,
         line,
         i,
@@ -107,9 +93,11 @@ fn call(
         direction,
         a_direction,
         z,
+        &mut tally,
     );
     tell(
-        after,
+        answer,
+        tally,
         columns,
         rhs,
         scratch,
@@ -153,15 +141,15 @@ fn started(w: &[u32], line: &[f32], columns: &mut [f32], out: &mut Room) -> usiz
     turned(w, line, columns, i, j, k, out)
 }
 
-pub fn compute_columns(w: &[u32], out: &mut Room) -> usize
-    ensures { result ≤ room }
+pub fn compute_columns(w: &[u32], out: &mut Room) -> Option<usize>
+    ensures { IfSome result (λ at. at ≤ room) }
 {
     if !filled(w, 6, 20) {
-        return 0;
+        return None;
     }
     let mut line = [0f32; WORDS];
     let mut columns = [0f32; LONGEST];
     let i = as_reals(w, &mut line);
     let j = lent_reals(w, 6, 12, &mut columns);
-    started(w, i, j, out)
+    Some(started(w, i, j, out))
 }

@@ -1,4 +1,4 @@
-// The columns' calls on the words of a stored case's line. Computing goes through its function with the tally by value.
+// The columns' calls on the words of a stored case's line.
 #![tactic(auto)]
 
 mod combine;

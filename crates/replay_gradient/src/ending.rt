@@ -3,19 +3,8 @@ ghost use Rattle.std.specs.Prelude.{◌≤◌};
 ghost use Rattle.replay_tokens.specs.Room.{room};
 
 use gradient_definition::Outcome;
-use gradient_doors::Solved;
-use replay_tokens::print::{Room, float, float_list, whole, word};
-use replay_tokens::verdict::refused;
-
-// The answer's first words.
-pub fn solved(answer: Solved, out: &mut Room) -> usize
-    ensures { result ≤ room }
-{
-    match answer {
-        Solved::Refused(number) => refused(number, out),
-        Solved::Ran(_) => word(b"done", out, 0),
-    }
-}
+use law::refusal::Refusal;
+use replay_tokens::print::{Room, float, float_list, whole};
 
 // The last five lists that a solve may change, as they stand afterwards.
 pub fn show(
@@ -53,14 +42,10 @@ pub fn numbers(o: Outcome, out: &mut Room, at: usize) -> usize
 {
     match o {
         Outcome::Zero { count } => pair(1, count, out, at),
-        Outcome::Near { count, residual: _ } => pair(2, count, out, at),
-        Outcome::Converged { count, residual: _ } => pair(3, count, out, at),
-        Outcome::Curvature {
-            count,
-            residual: _,
-            denominator: _,
-        } => pair(4, count, out, at),
-        Outcome::Limit { count, residual: _ } => pair(5, count, out, at),
+        Outcome::Near { count, .. } => pair(2, count, out, at),
+        Outcome::Converged { count, .. } => pair(3, count, out, at),
+        Outcome::Curvature { count, .. } => pair(4, count, out, at),
+        Outcome::Limit { count, .. } => pair(5, count, out, at),
     }
 }
 
@@ -69,24 +54,9 @@ pub fn carried(o: Outcome) -> u64
     ensures { result ≤ 2 }
 {
     match o {
-        Outcome::Zero { count: _ } => 0,
-        Outcome::Near {
-            count: _,
-            residual: _,
-        } => 1,
-        Outcome::Converged {
-            count: _,
-            residual: _,
-        } => 1,
-        Outcome::Curvature {
-            count: _,
-            residual: _,
-            denominator: _,
-        } => 2,
-        Outcome::Limit {
-            count: _,
-            residual: _,
-        } => 1,
+        Outcome::Zero { .. } => 0,
+        Outcome::Near { .. } | Outcome::Converged { .. } | Outcome::Limit { .. } => 1,
+        Outcome::Curvature { .. } => 2,
     }
 }
 
@@ -103,15 +73,15 @@ pub fn floats(o: Outcome, out: &mut Room, at: usize) -> usize
     ensures { result ≤ room }
 {
     match o {
-        Outcome::Zero { count: _ } => at,
-        Outcome::Near { count: _, residual } => float(residual, out, at),
-        Outcome::Converged { count: _, residual } => float(residual, out, at),
+        Outcome::Zero { .. } => at,
+        Outcome::Near { residual, .. }
+        | Outcome::Converged { residual, .. }
+        | Outcome::Limit { residual, .. } => float(residual, out, at),
         Outcome::Curvature {
-            count: _,
             residual,
             denominator,
+            ..
         } => two(residual, denominator, out, at),
-        Outcome::Limit { count: _, residual } => float(residual, out, at),
     }
 }
 
@@ -132,12 +102,12 @@ pub fn outcome(o: Outcome, out: &mut Room, at: usize) -> usize
     floats(o, out, to)
 }
 
-pub fn told(answer: Solved, out: &mut Room, at: usize) -> usize
+pub fn told(answer: Result<Outcome, Refusal>, out: &mut Room, at: usize) -> usize
     requires { at ≤ room }
     ensures { result ≤ room }
 {
     match answer {
-        Solved::Refused(_) => none(out, at),
-        Solved::Ran(o) => outcome(o, out, at),
+        Err(_) => none(out, at),
+        Ok(o) => outcome(o, out, at),
     }
 }

@@ -1,19 +1,17 @@
-// The operations by name. Each takes the numbers of its line and writes its answer to the buffer; the answer is 0 where no operation has
+// The operations by name. Each takes the numbers of its line and writes its answer to the buffer; the answer is None where no operation has
 // the name, or the numbers are not as it takes them.
-ghost use Rattle.std.specs.Prelude.{◌≤◌};
+ghost use Rattle.std.specs.Prelude.{◌≤◌, IfSome};
 ghost use Rattle.replay_tokens.specs.Room.{room};
 
 use crate::{solve, update};
 use replay_tokens::print::Room;
 
-pub fn operate(name: &[u8], w: &[u32], out: &mut Room) -> usize
-    ensures { result ≤ room }
+pub fn operate(name: &[u8], w: &[u32], out: &mut Room) -> Option<usize>
+    ensures { IfSome result (λ at. at ≤ room) }
 {
-    if check::same(name, b"update_preconditioner") {
-        return update::update_preconditioner(w, out);
+    match name {
+        b"update_preconditioner" => update::update_preconditioner(w, out),
+        b"conjugate_gradient" => solve::conjugate_gradient(w, out),
+        _ => None,
     }
-    if check::same(name, b"conjugate_gradient") {
-        return solve::conjugate_gradient(w, out);
-    }
-    0
 }

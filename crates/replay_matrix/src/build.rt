@@ -1,13 +1,13 @@
 // The building operations. The answer is the verdict, then every list that the call may change, as it stands afterwards. The lists are
 // lent by twos and threes: what a function knows makes each of its steps dear to check.
-ghost use Rattle.std.specs.Prelude.{◌≤◌};
+ghost use Rattle.std.specs.Prelude.{◌≤◌, IfSome};
 ghost use Rattle.replay_tokens.specs.Room.{room};
 
-use crate::verdict::built;
+use law::refusal::Refusal;
 use law::wide;
-use matrix_building::Built;
 use replay_tokens::list::{LONGEST, filled, lent_reals, lent_wholes, plain, wholes};
 use replay_tokens::print::{Room, float_list, whole_list};
+use replay_tokens::verdict::counted;
 
 fn show_pattern(
     row_offsets: &[u32],
@@ -31,7 +31,7 @@ fn made_pattern(
     cols: &mut [u32],
     diagonal: &mut [u32],
     work: &mut [u32],
-) -> Built {
+) -> Result<usize, Refusal> {
     matrix_doors::pattern_from_pairs(
         wide(plain(w, 0)),
         wide(plain(w, 1)),
@@ -53,7 +53,8 @@ fn call_pattern(
 ) -> usize
     ensures { result ≤ room }
 {
-    let at = built(made_pattern(w, row_offsets, cols, diagonal, work), out);
+    let built = made_pattern(w, row_offsets, cols, diagonal, work);
+    let at = counted(built.map(|blocks| blocks as u64), out);
     let to = show_pattern(row_offsets, cols, diagonal, out, at);
     whole_list(work, out, to)
 }
@@ -65,7 +66,7 @@ fn made_matrix(
     diagonal: &mut [u32],
     blocks: &mut [f32],
     work: &mut [u32],
-) -> Built {
+) -> Result<usize, Refusal> {
     matrix_doors::from_pairs(
         wide(plain(w, 0)),
         wide(plain(w, 1)),
@@ -89,10 +90,8 @@ fn call_matrix(
 ) -> usize
     ensures { result ≤ room }
 {
-    let at = built(
-        made_matrix(w, row_offsets, cols, diagonal, blocks, work),
-        out,
-    );
+    let built = made_matrix(w, row_offsets, cols, diagonal, blocks, work);
+    let at = counted(built.map(|blocks| blocks as u64), out);
     let mut to = show_pattern(row_offsets, cols, diagonal, out, at);
     to = float_list(blocks, out, to);
     whole_list(work, out, to)
@@ -121,28 +120,28 @@ fn matrix(w: &[u32], row_offsets: &mut [u32], cols: &mut [u32], out: &mut Room) 
     call_matrix(w, row_offsets, cols, d, b, t, out)
 }
 
-pub fn pattern_from_pairs(w: &[u32], out: &mut Room) -> usize
-    ensures { result ≤ room }
+pub fn pattern_from_pairs(w: &[u32], out: &mut Room) -> Option<usize>
+    ensures { IfSome result (λ at. at ≤ room) }
 {
     if !filled(w, 2, 5) {
-        return 0;
+        return None;
     }
     let mut row_offsets = [0u32; LONGEST];
     let mut cols = [0u32; LONGEST];
     let r = lent_wholes(w, 2, 1, &mut row_offsets);
     let c = lent_wholes(w, 2, 2, &mut cols);
-    pattern_alone(w, r, c, out)
+    Some(pattern_alone(w, r, c, out))
 }
 
-pub fn from_pairs(w: &[u32], out: &mut Room) -> usize
-    ensures { result ≤ room }
+pub fn from_pairs(w: &[u32], out: &mut Room) -> Option<usize>
+    ensures { IfSome result (λ at. at ≤ room) }
 {
     if !filled(w, 2, 6) {
-        return 0;
+        return None;
     }
     let mut row_offsets = [0u32; LONGEST];
     let mut cols = [0u32; LONGEST];
     let r = lent_wholes(w, 2, 1, &mut row_offsets);
     let c = lent_wholes(w, 2, 2, &mut cols);
-    matrix(w, r, c, out)
+    Some(matrix(w, r, c, out))
 }

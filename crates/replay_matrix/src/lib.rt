@@ -4,4 +4,3 @@
 mod blocks;
 mod build;
 pub mod operation;
-mod verdict;

@@ -1,22 +1,13 @@
 // Planning on the words of a stored case's line. The answer is the verdict, then every list that the call may change, as it stands
 // afterwards. The lists are lent by twos and threes: what a function knows makes each of its steps dear to check.
-ghost use Rattle.std.specs.Prelude.{◌≤◌};
+ghost use Rattle.std.specs.Prelude.{◌≤◌, IfSome};
 ghost use Rattle.replay_tokens.specs.Room.{room};
 
-use law::wide;
-use plan_doors::Planned;
-use replay_tokens::list::{LONGEST, filled, lent_wholes, plain, wholes};
+use law::refusal::Refusal;
+use replay_tokens::lent::pattern;
+use replay_tokens::list::{LONGEST, filled, lent_wholes};
 use replay_tokens::print::{Room, whole_list};
-use replay_tokens::verdict::{done, refused};
-
-fn planned(answer: Planned, out: &mut Room) -> usize
-    ensures { result ≤ room }
-{
-    match answer {
-        Planned::Refused(number) => refused(number, out),
-        Planned::Done(len) => done(len as u64, out),
-    }
-}
+use replay_tokens::verdict::counted;
 
 fn show_plan(
     perm: &[u32],
@@ -66,21 +57,10 @@ fn made(
     mark: &mut [u32],
     level: &mut [u32],
     queue: &mut [u32],
-) -> Planned {
+) -> Result<usize, Refusal> {
+    let pattern = pattern(w, 1);
     plan_doors::plan(
-        wide(plain(w, 0)),
-        wholes(w, 1, 0),
-        wholes(w, 1, 1),
-        wholes(w, 1, 2),
-        perm,
-        inv_perm,
-        first,
-        row_start,
-        degrees,
-        placed,
-        mark,
-        level,
-        queue,
+        &pattern, perm, inv_perm, first, row_start, degrees, placed, mark, level, queue,
     )
 }
 
@@ -102,7 +82,7 @@ fn call(
     let answer = made(
         w, perm, inv_perm, first, row_start, degrees, placed, mark, level, queue,
     );
-    let at = planned(answer, out);
+    let at = counted(answer.map(|len| len as u64), out);
     let to = show_plan(perm, inv_perm, first, row_start, out, at);
     show_work(degrees, placed, mark, level, queue, out, to)
 }
@@ -158,15 +138,15 @@ fn rows(w: &[u32], perm: &mut [u32], inv_perm: &mut [u32], out: &mut Room) -> us
     places(w, perm, inv_perm, i, j, out)
 }
 
-pub fn plan(w: &[u32], out: &mut Room) -> usize
-    ensures { result ≤ room }
+pub fn plan(w: &[u32], out: &mut Room) -> Option<usize>
+    ensures { IfSome result (λ at. at ≤ room) }
 {
     if !filled(w, 1, 12) {
-        return 0;
+        return None;
     }
     let mut perm = [0u32; LONGEST];
     let mut inv_perm = [0u32; LONGEST];
     let i = lent_wholes(w, 1, 3, &mut perm);
     let j = lent_wholes(w, 1, 4, &mut inv_perm);
-    rows(w, i, j, out)
+    Some(rows(w, i, j, out))
 }

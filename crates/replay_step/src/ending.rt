@@ -4,33 +4,11 @@ ghost use Rattle.std.specs.Prelude.{◌≤◌};
 ghost use Rattle.replay_tokens.specs.Room.{room};
 
 use gradient_definition::Outcome;
+use law::refusal::Refusal;
 use replay_gradient::ending::{carried, floats, none, numbers, outcome, pair};
-use replay_tokens::print::{Room, float, whole, word};
-use replay_tokens::verdict::refused;
+use replay_tokens::print::{Room, float, whole};
 use step_response::Responded;
 use step_solve::Stepped;
-
-// The answer's first words.
-pub fn stepped(answer: Stepped, out: &mut Room) -> usize
-    ensures { result ≤ room }
-{
-    match answer {
-        Stepped::Refused(number) => refused(number, out),
-        Stepped::Direct => word(b"done", out, 0),
-        Stepped::Iterated(_) => word(b"done", out, 0),
-    }
-}
-
-pub fn responded(answer: Responded, out: &mut Room) -> usize
-    ensures { result ≤ room }
-{
-    match answer {
-        Responded::Refused(number) => refused(number, out),
-        Responded::Nothing => word(b"done", out, 0),
-        Responded::Direct { gain: _ } => word(b"done", out, 0),
-        Responded::Iterated { gain: _, how: _ } => word(b"done", out, 0),
-    }
-}
 
 fn directly(out: &mut Room, at: usize) -> usize
     requires { at ≤ room }
@@ -40,14 +18,14 @@ fn directly(out: &mut Room, at: usize) -> usize
     whole(0, out, to)
 }
 
-pub fn of_step(answer: Stepped, out: &mut Room, at: usize) -> usize
+pub fn of_step(answer: Result<Stepped, Refusal>, out: &mut Room, at: usize) -> usize
     requires { at ≤ room }
     ensures { result ≤ room }
 {
     match answer {
-        Stepped::Refused(_) => none(out, at),
-        Stepped::Direct => directly(out, at),
-        Stepped::Iterated(o) => outcome(o, out, at),
+        Err(_) => none(out, at),
+        Ok(Stepped::Direct) => directly(out, at),
+        Ok(Stepped::Iterated(o)) => outcome(o, out, at),
     }
 }
 
@@ -70,14 +48,14 @@ fn iterated(gain: f32, o: Outcome, out: &mut Room, at: usize) -> usize
     floats(o, out, to)
 }
 
-pub fn of_response(answer: Responded, out: &mut Room, at: usize) -> usize
+pub fn of_response(answer: Result<Responded, Refusal>, out: &mut Room, at: usize) -> usize
     requires { at ≤ room }
     ensures { result ≤ room }
 {
     match answer {
-        Responded::Refused(_) => none(out, at),
-        Responded::Nothing => gained(6, 0.0, out, at),
-        Responded::Direct { gain } => gained(0, gain, out, at),
-        Responded::Iterated { gain, how } => iterated(gain, how, out, at),
+        Err(_) => none(out, at),
+        Ok(Responded::Nothing) => gained(6, 0.0, out, at),
+        Ok(Responded::Direct { gain }) => gained(0, gain, out, at),
+        Ok(Responded::Iterated { gain, how }) => iterated(gain, how, out, at),
     }
 }

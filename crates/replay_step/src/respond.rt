@@ -2,14 +2,19 @@
 ghost use Rattle.std.specs.Prelude.{◌≤◌};
 ghost use Rattle.replay_tokens.specs.Room.{room};
 
-use crate::ending::{of_response, responded};
+use crate::call::Call;
+use crate::ending::of_response;
+use crate::lines;
+use law::refusal::Refusal;
 use law::wide;
 use replay_gradient::ending::show;
 use replay_tally::record;
 use replay_tokens::list::{LONGEST, lent_bytes, lent_reals, plain, reals, wholes};
 use replay_tokens::print::{Room, float_list};
-use replay_tokens::word::real;
-use step_lent::AfterResponse;
+use replay_tokens::verdict::first_words;
+use step_entries::entries::Entries;
+use step_lent::After;
+use step_response::Responded;
 
 // The call, with what the line gives it.
 fn made(
@@ -23,27 +28,16 @@ fn made(
     direction: &mut [f32],
     a_direction: &mut [f32],
     z: &mut [f32],
-) -> AfterResponse {
+) -> After<Result<Responded, Refusal>> {
+    let entries = Entries {
+        count: wide(plain(w, 5)),
+        particles: wholes(w, 6, 11),
+        gradients: reals(w, line, 6, 12),
+    };
     step_lent::inner::response_into(
-        wide(plain(w, 0)),
-        wholes(w, 6, 0),
-        wholes(w, 6, 1),
-        wholes(w, 6, 2),
-        reals(w, line, 6, 3),
-        wholes(w, 6, 4),
-        wholes(w, 6, 5),
-        wholes(w, 6, 6),
-        wholes(w, 6, 7),
-        reals(w, line, 6, 8),
-        plain(w, 4) != 0,
-        reals(w, line, 6, 9),
-        real(plain(w, 2)),
-        wide(plain(w, 1)),
-        wide(plain(w, 3)),
+        &lines::system(w, line, 6),
         pinned,
-        wide(plain(w, 5)),
-        wholes(w, 6, 11),
-        reals(w, line, 6, 12),
+        &entries,
         solution,
         rhs,
         scratch,
@@ -57,7 +51,7 @@ fn made(
 
 // The verdict, the lists and the counts as they stand afterwards, the gain and how the solve ended.
 fn tell(
-    after: AfterResponse,
+    after: After<Result<Responded, Refusal>>,
     solution: &[f32],
     rhs: &[f32],
     scratch: &[f32],
@@ -71,7 +65,7 @@ fn tell(
 {
     let answer = after.answer;
     let record = after.tally;
-    let at = responded(answer, out);
+    let at = first_words(&answer, out);
     let mut to = float_list(solution, out, at);
     to = float_list(rhs, out, to);
     to = show(scratch, residual, direction, a_direction, z, out, to);
@@ -119,35 +113,43 @@ fn respond(
     )
 }
 
+pub struct Response;
+
 // Two lists more than a step solve works with.
-pub fn call(
-    w: &[u32],
-    line: &[f32],
-    solution: &mut [f32],
-    scratch: &mut [f32],
-    residual: &mut [f32],
-    direction: &mut [f32],
-    a_direction: &mut [f32],
-    z: &mut [f32],
-    out: &mut Room,
-) -> usize
-    ensures { result ≤ room }
-{
-    let mut pinned = [0u8; LONGEST];
-    let mut rhs = [0f32; LONGEST];
-    let i = lent_bytes(w, 6, 10, &mut pinned);
-    let j = lent_reals(w, 6, 14, &mut rhs);
-    respond(
-        w,
-        line,
-        i,
-        solution,
-        j,
-        scratch,
-        residual,
-        direction,
-        a_direction,
-        z,
-        out,
-    )
+impl Call for Response {
+    const PLAINS: u8 = 6;
+
+    const TO_SOLUTION: u8 = 13;
+
+    const TO_SCRATCH: u8 = 15;
+
+    fn call(
+        w: &[u32],
+        line: &[f32],
+        solution: &mut [f32],
+        scratch: &mut [f32],
+        residual: &mut [f32],
+        direction: &mut [f32],
+        a_direction: &mut [f32],
+        z: &mut [f32],
+        out: &mut Room,
+    ) -> usize {
+        let mut pinned = [0u8; LONGEST];
+        let mut rhs = [0f32; LONGEST];
+        let i = lent_bytes(w, 6, 10, &mut pinned);
+        let j = lent_reals(w, 6, 14, &mut rhs);
+        respond(
+            w,
+            line,
+            i,
+            solution,
+            j,
+            scratch,
+            residual,
+            direction,
+            a_direction,
+            z,
+            out,
+        )
+    }
 }

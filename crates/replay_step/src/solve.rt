@@ -2,14 +2,17 @@
 ghost use Rattle.std.specs.Prelude.{◌≤◌};
 ghost use Rattle.replay_tokens.specs.Room.{room};
 
-use crate::ending::{of_step, stepped};
-use law::wide;
+use crate::call::Call;
+use crate::ending::of_step;
+use crate::lines;
+use law::refusal::Refusal;
 use replay_gradient::ending::show;
 use replay_tally::record;
-use replay_tokens::list::{plain, reals, wholes};
+use replay_tokens::list::reals;
 use replay_tokens::print::{Room, float_list};
-use replay_tokens::word::real;
-use step_lent::AfterStep;
+use replay_tokens::verdict::first_words;
+use step_lent::After;
+use step_solve::Stepped;
 
 // The call, with what the line gives it.
 fn made(
@@ -21,24 +24,10 @@ fn made(
     direction: &mut [f32],
     a_direction: &mut [f32],
     z: &mut [f32],
-) -> AfterStep {
+) -> After<Result<Stepped, Refusal>> {
     step_lent::inner::solve_step(
-        wide(plain(w, 0)),
-        wholes(w, 5, 0),
-        wholes(w, 5, 1),
-        wholes(w, 5, 2),
-        reals(w, line, 5, 3),
-        wholes(w, 5, 4),
-        wholes(w, 5, 5),
-        wholes(w, 5, 6),
-        wholes(w, 5, 7),
-        reals(w, line, 5, 8),
-        plain(w, 4) != 0,
-        reals(w, line, 5, 9),
+        &lines::system(w, line, 5),
         reals(w, line, 5, 10),
-        real(plain(w, 2)),
-        wide(plain(w, 1)),
-        wide(plain(w, 3)),
         x,
         scratch,
         residual,
@@ -51,7 +40,7 @@ fn made(
 
 // The verdict, the lists and the counts as they stand afterwards, and how the solve ended.
 fn tell(
-    after: AfterStep,
+    after: After<Result<Stepped, Refusal>>,
     x: &[f32],
     scratch: &[f32],
     residual: &[f32],
@@ -64,26 +53,34 @@ fn tell(
 {
     let answer = after.answer;
     let record = after.tally;
-    let at = stepped(answer, out);
+    let at = first_words(&answer, out);
     let mut to = float_list(x, out, at);
     to = show(scratch, residual, direction, a_direction, z, out, to);
     to = record::show(record, out, to);
     of_step(answer, out, to)
 }
 
-pub fn call(
-    w: &[u32],
-    line: &[f32],
-    x: &mut [f32],
-    scratch: &mut [f32],
-    residual: &mut [f32],
-    direction: &mut [f32],
-    a_direction: &mut [f32],
-    z: &mut [f32],
-    out: &mut Room,
-) -> usize
-    ensures { result ≤ room }
-{
-    let after = made(w, line, x, scratch, residual, direction, a_direction, z);
-    tell(after, x, scratch, residual, direction, a_direction, z, out)
+pub struct Step;
+
+impl Call for Step {
+    const PLAINS: u8 = 5;
+
+    const TO_SOLUTION: u8 = 11;
+
+    const TO_SCRATCH: u8 = 12;
+
+    fn call(
+        w: &[u32],
+        line: &[f32],
+        x: &mut [f32],
+        scratch: &mut [f32],
+        residual: &mut [f32],
+        direction: &mut [f32],
+        a_direction: &mut [f32],
+        z: &mut [f32],
+        out: &mut Room,
+    ) -> usize {
+        let after = made(w, line, x, scratch, residual, direction, a_direction, z);
+        tell(after, x, scratch, residual, direction, a_direction, z, out)
+    }
 }

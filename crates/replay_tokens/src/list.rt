@@ -2,7 +2,6 @@
 // where the line does, but then `filled` says no. Lists are asked for by how many plain numbers and how many lists stand before them,
 // and come as slices, so that whoever asks has no place to keep and nothing to show of it.
 ghost use Rattle.std.specs.Prelude.{◌≤◌, length};
-ghost use Rattle.replay_tokens.specs.Front.{Front};
 
 use crate::word::real;
 
@@ -53,12 +52,6 @@ fn behind_all(w: &[u32], at: usize, lists: usize) -> usize {
     to
 }
 
-fn least(a: usize, b: usize) -> usize
-    ensures { (result ≤ a) × (result ≤ b) }
-{
-    if a < b { a } else { b }
-}
-
 // The items of the list that has `lists` lists before it, behind `at` plain numbers.
 pub fn wholes(w: &[u32], at: usize, lists: usize) -> &[u32] {
     let a = start(w, behind_all(w, at, lists));
@@ -69,104 +62,65 @@ pub fn wholes(w: &[u32], at: usize, lists: usize) -> &[u32] {
 // The same items out of all the line's words as floats, which end where the line does.
 pub fn reals<'w, 'a>(w: &'w [u32], line: &'a [f32], at: usize, lists: usize) -> &'a [f32] {
     let from = start(w, behind_all(w, at, lists));
-    let b = least(stop(w, from), line.len());
-    let a = least(from, b);
+    let b = stop(w, from).min(line.len());
+    let a = from.min(b);
     &line[a..b]
 }
 
-// As next, but usize::MAX if the line doesn't have the list at `at` in full, or if that is too long.
-fn behind(w: &[u32], at: usize) -> usize {
+// As next, where the line has the list at `at` in full and it isn't too long.
+fn behind(w: &[u32], at: usize) -> Option<usize> {
     if at >= w.len() {
-        return usize::MAX;
+        return None;
     }
     let count = law::wide(w[at]);
-    if count > LONGEST {
-        return usize::MAX;
+    if count > LONGEST || count > w.len() - at - 1 {
+        return None;
     }
-    if count > w.len() - at - 1 {
-        return usize::MAX;
-    }
-    at + 1 + count
+    Some(at + 1 + count)
 }
 
 // Whether the words from `at` on are just so many lists, none too long.
 pub fn filled(w: &[u32], at: usize, lists: usize) -> bool {
     let mut to = at;
     for _ in 0..lists {
-        to = behind(w, to);
+        let Some(next) = behind(w, to) else {
+            return false;
+        };
+        to = next;
     }
     to == w.len()
 }
 
-fn copy_wholes(items: &[u32], to: &mut [u32]) -> usize
-    ensures { Front result to.new }
-{
-    let n = least(items.len(), to.len());
-    let mut i = 0usize;
-    while i < n {
-        to[i] = items[i];
-        i += 1;
-    }
-    n
-}
-
-fn copy_reals(items: &[u32], to: &mut [f32]) -> usize
-    ensures { Front result to.new }
-{
-    let n = least(items.len(), to.len());
-    let mut i = 0usize;
-    while i < n {
-        to[i] = real(items[i]);
-        i += 1;
-    }
-    n
-}
-
 // What is no byte becomes the largest.
 fn byte(item: u32) -> u8 {
-    if item < 255 { item as u8 } else { 255 }
+    item.min(255) as u8
 }
 
-fn copy_bytes(items: &[u32], to: &mut [u8]) -> usize
-    ensures { Front result to.new }
+// The items as `reads` takes them, in a buffer's front.
+fn front<'a, T: Copy, F: Fn(u32) -> T>(items: &[u32], to: &'a mut [T], reads: F) -> &'a mut [T]
+    requires { F.IsAlwaysCallable reads }
 {
-    let n = least(items.len(), to.len());
-    let mut i = 0usize;
-    while i < n {
-        to[i] = byte(items[i]);
-        i += 1;
+    let n = items.len().min(to.len());
+    for i in 0..n {
+        to[i] = reads(items[i]);
     }
-    n
+    &mut to[..n]
 }
 
 // The same items, in a buffer's front.
-pub fn lent_wholes<'w, 'a>(
-    w: &'w [u32],
-    at: usize,
-    lists: usize,
-    to: &'a mut [u32],
-) -> &'a mut [u32] {
-    let n = copy_wholes(wholes(w, at, lists), to);
-    &mut to[..n]
+pub fn lent_wholes<'a>(w: &[u32], at: usize, lists: usize, to: &'a mut [u32]) -> &'a mut [u32] {
+    front(wholes(w, at, lists), to, |item| item)
 }
 
-pub fn lent_reals<'w, 'a>(
-    w: &'w [u32],
-    at: usize,
-    lists: usize,
-    to: &'a mut [f32],
-) -> &'a mut [f32] {
-    let n = copy_reals(wholes(w, at, lists), to);
-    &mut to[..n]
+pub fn lent_reals<'a>(w: &[u32], at: usize, lists: usize, to: &'a mut [f32]) -> &'a mut [f32] {
+    front(wholes(w, at, lists), to, real)
 }
 
-pub fn lent_bytes<'w, 'a>(w: &'w [u32], at: usize, lists: usize, to: &'a mut [u8]) -> &'a mut [u8] {
-    let n = copy_bytes(wholes(w, at, lists), to);
-    &mut to[..n]
+pub fn lent_bytes<'a>(w: &[u32], at: usize, lists: usize, to: &'a mut [u8]) -> &'a mut [u8] {
+    front(wholes(w, at, lists), to, byte)
 }
 
 // All the line's words as floats, in a buffer's front: what `reals` takes lists from.
-pub fn as_reals<'w, 'a>(w: &'w [u32], to: &'a mut [f32]) -> &'a mut [f32] {
-    let n = copy_reals(w, to);
-    &mut to[..n]
+pub fn as_reals<'a>(w: &[u32], to: &'a mut [f32]) -> &'a mut [f32] {
+    front(w, to, real)
 }

@@ -62,10 +62,8 @@ fn text(bytes: &[u8], out: &mut Room, at: usize) -> usize
     ensures { result ≤ room }
 {
     let mut to = at;
-    let mut i = 0usize;
-    while i < bytes.len() {
-        to = put(bytes[i], out, to);
-        i += 1;
+    for b in bytes {
+        to = put(*b, out, to);
     }
     to
 }
@@ -119,10 +117,8 @@ pub fn floats(list: &[f32], out: &mut Room, at: usize) -> usize
     ensures { result ≤ room }
 {
     let mut to = at;
-    let mut i = 0usize;
-    while i < list.len() {
-        to = float(list[i], out, to);
-        i += 1;
+    for v in list {
+        to = float(*v, out, to);
     }
     to
 }
@@ -151,10 +147,8 @@ pub fn whole_list(list: &[u32], out: &mut Room, at: usize) -> usize
     ensures { result ≤ room }
 {
     let mut to = whole(list.len() as u64, out, at);
-    let mut i = 0usize;
-    while i < list.len() {
-        to = whole(law::wide(list[i]) as u64, out, to);
-        i += 1;
+    for v in list {
+        to = whole(u64::from(*v), out, to);
     }
     to
 }

@@ -3,12 +3,33 @@ ghost use Rattle.std.specs.Prelude.{◌≤◌};
 ghost use Rattle.replay_tokens.specs.Room.{room};
 
 use crate::print::{Room, float, whole, word};
+use law::refusal::Refusal;
 
-pub fn refused(number: u8, out: &mut Room) -> usize
+pub fn refused(refusal: Refusal, out: &mut Room) -> usize
     ensures { result ≤ room }
 {
     let at = word(b"refused", out, 0);
-    whole(number as u64, out, at)
+    whole(u64::from(u8::from(refusal)), out, at)
+}
+
+// Of an answer that tells no number, or tells it behind the lists.
+pub fn first_words<T>(answer: &Result<T, Refusal>, out: &mut Room) -> usize
+    ensures { result ≤ room }
+{
+    match answer {
+        Err(refusal) => refused(*refusal, out),
+        Ok(_) => word(b"done", out, 0),
+    }
+}
+
+// Of one that is a count or a slot.
+pub fn counted(answer: Result<u64, Refusal>, out: &mut Room) -> usize
+    ensures { result ≤ room }
+{
+    match answer {
+        Err(refusal) => refused(refusal, out),
+        Ok(number) => done(number, out),
+    }
 }
 
 pub fn done(number: u64, out: &mut Room) -> usize

@@ -10,6 +10,7 @@ pub mod inner;
 // The largest whole number whose square is at most n, by Newton's steps. The guess r is never below
 // the root and each step lowers it, so the first whose square is at most n is the root. The first
 // step is taken from a power of two above the root: its division is a shift, and r * r always fits.
+// A `while`: it runs until the guess is right, and counts nothing.
 pub fn isqrt(n: u64) -> u64
     ensures { result ≡ root_of n }
 {

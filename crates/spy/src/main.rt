@@ -1,5 +1,5 @@
 // The picture program: a text as the bench program reads it, from standard input; the pattern before and after ordering, as a portable bitmap, to standard
-// output.
+// output. The lists that are written stay parameters: of a struct of them each clause would have to say that its fields keep their references.
 #![tactic(auto)]
 
 ghost use Rattle.std.specs.Prelude.{◌≡◌, ◌*◌, ◌≤◌, length};
@@ -9,7 +9,7 @@ ghost use Rattle.bench_plan.specs.Built.{Sheet};
 ghost use Rattle.bench_plan.specs.Read.{numbers_room};
 ghost use Rattle.bench_picture.specs.Ready.{line_room};
 
-use bench_sketch::inner::Sketched;
+use bench_picture::drawing::Drawing;
 use std::io;
 use std::io::{Read, Write};
 
@@ -46,26 +46,25 @@ fn reply_in<W: Write>(
         first,
     );
     match came {
-        Sketched::Refused(k) => output::refuse(k, line, writer),
-        Sketched::Done(n) => {
+        Err(refusal) => output::refuse(refusal, line, writer),
+        Ok(n) => {
             let starts = n + 1;
             let blocks = law::wide(row_offsets[n]);
             let rows = 2 * n;
-            output::draw(
+            let drawing = Drawing {
                 n,
-                &row_offsets[..starts],
-                &cols[..blocks],
-                &order[..n],
-                &first[..rows],
-                line,
-                writer,
-            )
+                row_offsets: &row_offsets[..starts],
+                cols: &cols[..blocks],
+                order: &order[..n],
+                first: &first[..rows],
+            };
+            output::draw(&drawing, line, writer)
         }
     }
 }
 
-// The lists are here, each as long as the limits ask, and nothing else. The buffer has room for more bytes than a text may have, which shows that there
-// are more.
+// The lists are here, each as long as the limits ask, and nothing else: arrays, since the project uses no heap.
+// The buffer has room for more bytes than a text may have, which shows that there are more.
 fn reply<W: Write>(read: usize, buffer: &[u8], writer: &mut W) -> io::Result<()>
     requires { Buffered read buffer.now }
 {

@@ -3,6 +3,9 @@ use Prim.Native.Nat.{ℕ}
 use mathlib.Core.Path.{◌≡◌, refl}
 use mathlib.Core.List.{[]}
 use lib.Ieee.{nan}
+use Rattle.std.specs.Prelude.{Result, Ok, Err}
+use Rattle.law.specs.declared.refusal.Refusal.{Refusal}
+use Rattle.law.specs.declared.refusal.Refusal.TheVariants.{OutOfRange, BadPattern}
 use Rattle.gradient_definition.specs.declared.Outcome.TheVariants.{Limit}
 use Rattle.step_tally.specs.declared.Tally.{Tally}
 use Rattle.step_tally.specs.Runs.{fresh}
@@ -15,10 +18,10 @@ use Rattle.step_response.specs.declared.Responded.TheVariants as answers
 use Rattle.step_counts.specs.Counting.{after_step, after_response}
 
 -- a fresh record after a step solve, and after a response
-stepped : Stepped → Tally
+stepped : Result Stepped Refusal → Tally
 stepped r = after_step fresh (S.left r [] [] [] [] [] [])
 
-responded : Responded → Tally
+responded : Result Responded Refusal → Tally
 responded r = after_response fresh (R.left r [] [] [] [] [] [] [])
 
 -- direct, limit and refused, of the seven counts
@@ -28,14 +31,14 @@ counts direct limit refused =
 
 record Readings : Type 0 where
   -- each call is counted once
-  direct : stepped steps.Direct ≡ counts 1 0 0
-  limit : stepped (steps.Iterated (Limit 7 nan)) ≡ counts 0 1 0
-  refused : stepped (steps.Refused 5) ≡ counts 0 0 1
+  direct : stepped (Ok steps.Direct) ≡ counts 1 0 0
+  limit : stepped (Ok (steps.Iterated (Limit 7 nan))) ≡ counts 0 1 0
+  refused : stepped (Err BadPattern) ≡ counts 0 0 1
   -- a response by the step solve that it asked for, if any
-  by_factor : responded (answers.Direct nan) ≡ counts 1 0 0
-  by_turns : responded (answers.Iterated nan (Limit 7 nan)) ≡ counts 0 1 0
-  response_refused : responded (answers.Refused 4) ≡ counts 0 0 1
-  nothing_left : responded answers.Nothing ≡ fresh
+  by_factor : responded (Ok (answers.Direct nan)) ≡ counts 1 0 0
+  by_turns : responded (Ok (answers.Iterated nan (Limit 7 nan))) ≡ counts 0 1 0
+  response_refused : responded (Err OutOfRange) ≡ counts 0 0 1
+  nothing_left : responded (Ok answers.Nothing) ≡ fresh
 
 readings : Readings
 unfolding stepped responded counts

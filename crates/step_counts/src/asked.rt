@@ -3,52 +3,41 @@ ghost use Rattle.std.specs.Prelude.{◌≡◌};
 ghost use Rattle.step_counts.specs.Counting.{kind_of, asked_of, asked_by};
 
 use gradient_definition::Outcome;
+use law::refusal::Refusal;
 use step_response::Responded;
 use step_solve::Stepped;
-use step_tally::{Asked, Kind};
+use step_tally::Kind;
 
+// A function, and no conversion: neither type is of this crate.
 fn kind_of(o: Outcome) -> Kind
     ensures { result ≡ kind_of o }
 {
     match o {
-        Outcome::Zero { count: _ } => Kind::Zero,
-        Outcome::Near {
-            count: _,
-            residual: _,
-        } => Kind::Near,
-        Outcome::Converged {
-            count: _,
-            residual: _,
-        } => Kind::Converged,
-        Outcome::Curvature {
-            count: _,
-            residual: _,
-            denominator: _,
-        } => Kind::Curvature,
-        Outcome::Limit {
-            count: _,
-            residual: _,
-        } => Kind::Limit,
+        Outcome::Zero { .. } => Kind::Zero,
+        Outcome::Near { .. } => Kind::Near,
+        Outcome::Converged { .. } => Kind::Converged,
+        Outcome::Curvature { .. } => Kind::Curvature,
+        Outcome::Limit { .. } => Kind::Limit,
     }
 }
 
-pub fn by_step(s: Stepped) -> Asked
-    ensures { result ≡ asked_of s }
+pub fn by_step(answer: Result<Stepped, Refusal>) -> Option<Kind>
+    ensures { result ≡ asked_of answer }
 {
-    match s {
-        Stepped::Refused(_) => Asked::One(Kind::Refused),
-        Stepped::Direct => Asked::One(Kind::Direct),
-        Stepped::Iterated(o) => Asked::One(kind_of(o)),
-    }
+    Some(match answer {
+        Err(_) => Kind::Refused,
+        Ok(Stepped::Direct) => Kind::Direct,
+        Ok(Stepped::Iterated(o)) => kind_of(o),
+    })
 }
 
-pub fn by_response(r: Responded) -> Asked
-    ensures { result ≡ asked_by r }
+pub fn by_response(answer: Result<Responded, Refusal>) -> Option<Kind>
+    ensures { result ≡ asked_by answer }
 {
-    match r {
-        Responded::Refused(_) => Asked::One(Kind::Refused),
-        Responded::Nothing => Asked::Nothing,
-        Responded::Direct { gain: _ } => Asked::One(Kind::Direct),
-        Responded::Iterated { gain: _, how } => Asked::One(kind_of(how)),
+    match answer {
+        Err(_) => Some(Kind::Refused),
+        Ok(Responded::Nothing) => None,
+        Ok(Responded::Direct { .. }) => Some(Kind::Direct),
+        Ok(Responded::Iterated { how, .. }) => Some(kind_of(how)),
     }
 }

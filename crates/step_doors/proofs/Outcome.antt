@@ -39,16 +39,16 @@ responded i = either Responded (responding.asks i) _ _ refl refl
 
 pub one_factorize_step_matrix : OneOutcome factorize-step-matrix.ended (λ M 𝓤. factorize-step-matrix.spec)
 one_factorize_step_matrix = plainly factorize-step-matrix.ended _ (λ κs a p.
-    of_door marking.door _ _ (λ o. (o.answer, past 10 (o.values, (o.preconditioner, tt)))) (marked _) (λ k. refl) (λ w. refl))
+    of_door marking.door _ _ (λ o. (o.answer, past 4 (o.values, (o.preconditioner, tt)))) (marked _) (λ k. refl) (λ w. refl))
 
 pub one_solve_step : OneOutcome solve-step.ended (λ M 𝓤. solve-step.spec)
 one_solve_step = plainly solve-step.ended _ (λ κs a p.
     of_counted stepping.door _ _ after_step _ _
-    (λ o t. (o.answer, past 16 (o.x, (o.scratch, (o.residual, (o.direction, (o.a_direction, (o.z, (t, tt))))))))) (λ u. stepped _)
+    (λ o t. (o.answer, past 2 (o.x, (o.scratch, (o.residual, (o.direction, (o.a_direction, (o.z, (t, tt))))))))) (λ u. stepped _)
     (λ k u. refl) (λ o u. refl) (λ w. refl))
 
 pub one_response_into : OneOutcome response-into.ended (λ M 𝓤. response-into.spec)
 one_response_into = plainly response-into.ended _ (λ κs a p.
     of_counted responding.door _ _ after_response _ _
-    (λ o t. (o.answer, past 19 (o.out, (o.rhs, (o.scratch, (o.residual, (o.direction, (o.a_direction, (o.z, (t, tt)))))))))) (λ u. responded _)
+    (λ o t. (o.answer, past 3 (o.out, (o.rhs, (o.scratch, (o.residual, (o.direction, (o.a_direction, (o.z, (t, tt)))))))))) (λ u. responded _)
     (λ k u. refl) (λ o u. refl) (λ w. refl))

@@ -15,7 +15,11 @@ use Rattle.vectors.specs.Whole.{dot_all}
 use Rattle.matrix_shape.specs.Formed.{slot_ok as columnOk, home_ok, row_ok as columnsOk, stored, mirrors_ok, starts_ok as offsetsOk, well_formed}
 use Rattle.matrix_shape.specs.Given.{pattern_room, formed}
 use Rattle.plan_fits.specs.Fits.{back_ok, undo_ok, twins_ok, firsts_ok, grow_ok, starts_ok, plan_rules_ok, slot_ok, row_ok, inside_ok, fits_ok}
+use Rattle.matrix_shape.specs.Shape.{shape}
 use Rattle.plan_fits.specs.Given.{plan_room, factor_length}
+use Rattle.plan_fits.specs.Layout.{layout}
+use Rattle.step_routes.specs.System.{Sys, system}
+use Rattle.step_entries.specs.Lent.{entered}
 use Rattle.factor_passes.specs.Passes.{row_sum as solvedSum, forward_by, forward_step, forward_of, taken_of, back_step, backward_of}
 use Rattle.factor_substitution.specs.Solve.{permuted, placed_of, solve_of}
 use Rattle.matrix_values.specs.Product.{slot_step, row_sum, product_at}
@@ -40,22 +44,26 @@ counts : ℕ → ℕ → ℕ → ℕ → ℕ → ℕ → ℕ → Tally
 counts direct none near converged curvature limit refused =
     record { direct = direct; zero = none; near = near; converged = converged; curvature = curvature; limit = limit; refused = refused }
 
+-- one particle, whose block, mark of the factor, tolerance and limit are given; the preconditioner is the block
+lent : List Float → Bool → ℕ → ℕ → Sys
+lent m mark tolerance limit =
+    system (shape 1 (0 ∷ 1 ∷ []) (0 ∷ []) (0 ∷ [])) m (layout (0 ∷ []) (0 ∷ []) (0 ∷ 0 ∷ []) (0 ∷ 1 ∷ 3 ∷ [])) (floats (0x3f800000 ∷ 0 ∷ 0x3f800000 ∷ [])) mark m
+    (of_bits binary32 tolerance) limit 2
+
 -- the record after a step solve: the block and the preconditioner, b, the mark, the tolerance and the limit are given
 step : Tally → List ℕ → List ℕ → Bool → ℕ → ℕ → Tally
 step t block b mark tolerance limit =
     let m = floats block in
     let v = floats (0 ∷ 0 ∷ []) in
-    after_step t (outcome S.door (S.given 1 (0 ∷ 1 ∷ []) (0 ∷ []) (0 ∷ []) m (0 ∷ []) (0 ∷ []) (0 ∷ 0 ∷ []) (0 ∷ 1 ∷ 3 ∷ [])
-    (floats (0x3f800000 ∷ 0 ∷ 0x3f800000 ∷ [])) mark m (floats b) (of_bits binary32 tolerance) limit 2 v v v v v v))
+    after_step t (outcome S.door (S.given (lent m mark tolerance limit) (floats b) v v v v v v))
 
 -- and after a response with one entry, whose pinned mark is given, and whose particle
 respond : Tally → ℕ → ℕ → Bool → Tally
 respond t pinned particle mark =
     let m = floats (0x3f800000 ∷ 0 ∷ 0 ∷ 0x3f800000 ∷ []) in
     let v = floats (0 ∷ 0 ∷ []) in
-    after_response t (outcome R.door (R.given 1 (0 ∷ 1 ∷ []) (0 ∷ []) (0 ∷ []) m (0 ∷ []) (0 ∷ []) (0 ∷ 0 ∷ []) (0 ∷ 1 ∷ 3 ∷ [])
-    (floats (0x3f800000 ∷ 0 ∷ 0x3f800000 ∷ [])) mark m (of_bits binary32 0) 1 2 (pinned ∷ []) 1 (particle ∷ [])
-    (floats (0x40400000 ∷ 0x40800000 ∷ [])) v v v v v v v))
+    after_response t (outcome R.door (R.given (lent m mark 0 1) (pinned ∷ []) (entered 1 (particle ∷ []) (floats (0x40400000 ∷ 0x40800000 ∷ [])))
+    v v v v v v v))
 
 abbrev eye : List ℕ
 eye = 0x3f800000 ∷ 0 ∷ 0 ∷ 0x3f800000 ∷ []
@@ -100,7 +108,7 @@ record Readings : Type 0 where
   above_cap : step above eye b34 true 0 1 ≡ above
 
 readings : Readings
-unfolding floats counts step respond outcome S.refusals S.work S.directly S.iteratively R.refusals R.work R.answered R.idle R.rhs_of entries_room below
+unfolding floats counts lent step respond outcome S.refusals S.work S.directly S.iteratively R.refusals R.work R.answered R.idle R.rhs_of entries_room below
     free any_free load_step loaded gain_step raw_gain gain_of written later swept plan_held step_held structural when verdict enough D.work G.work G.solve_for
     G.vectors_room pattern_room plan_room factor_length formed well_formed offsetsOk columnsOk columnOk home_ok mirrors_ok stored fits_ok inside_ok row_ok
     slot_ok plan_rules_ok undo_ok back_ok firsts_ok twins_ok starts_ok grow_ok every some settings_ok solve_of placed_of permuted backward_of back_step taken_of

@@ -1,16 +1,15 @@
 -- THE TALLY OVER ANY SEQUENCE OF CALLS, each with any input: from a fresh record the sum is the lesser of the cap and
 -- the number of step solves asked for, and each count is the number of its kind among the first so many.
-use Rattle.std.specs.Prelude.{◌≡◌, refl, List, [], ◌∷◌, ◌⊎◌, Bool, true, false, cond, ℕ, suc, min, length, take, Float}
+use Rattle.std.specs.Prelude.{◌≡◌, refl, List, [], ◌∷◌, ◌⊎◌, Bool, true, false, cond, min, length, take, Float, Result, Ok, Err, None, Some}
 use Rattle.std.proofs.Common.{ap, ◌∙◌, inl, inr}
 use Rattle.law.specs.Limit.{tally}
-use Rattle.law.specs.Refusal.{verdict}
+use Rattle.law.specs.declared.refusal.Refusal.{Refusal}
+use Rattle.law.specs.Refusal.{Verdict, verdict}
 use Rattle.law.specs.Promise.{by, outcome, Counted}
 use Rattle.step_tally.specs.declared.Tally.{Tally}
 use Rattle.step_tally.specs.declared.Kind.{Kind}
 use Rattle.step_tally.specs.declared.Kind.TheVariants.{Refused}
-use Rattle.step_tally.specs.declared.Asked.{Asked}
-use Rattle.step_tally.specs.declared.Asked.TheVariants.{Nothing, One}
-use Rattle.step_tally.specs.Count.{total_of, counted_of}
+use Rattle.step_tally.specs.Count.{Asked, total_of, counted_of}
 use Rattle.step_tally.specs.Runs.{fresh, count_of, after, solves, of_kind, sum_is, count_is}
 use Rattle.step_solve.specs.declared.Stepped.{Stepped}
 use Rattle.step_solve.specs.declared.Stepped.TheVariants as steps
@@ -30,25 +29,25 @@ asks (inr i) = asked_by (outcome R.door i).answer
 
 -- ---- what a response asks for: nothing exactly if it is accepted and no entry is left; refused, one refused call; else the step solve of its right-hand side
 
-pub asks_nothing : (i : R.In) → verdict (R.refusals i) ≡ 0 → R.asks i ≡ false → asks (inr i) ≡ Nothing
+pub asks_nothing : (i : R.In) → verdict (R.refusals i) ≡ Ok tt → R.asks i ≡ false → asks (inr i) ≡ None
 unfolding outcome R.work R.idle
 asks_nothing i v f =
-    ap (λ (k : ℕ). asked_by (by k (R.work i) (λ j. (R.door).refuse j i)).answer) v ∙ ap (λ (b : Bool). asked_by (cond b (R.answered i) (R.idle i)).answer) f
+    ap (λ (v : Verdict). asked_by (by v (R.work i) (λ j. (R.door).refuse j i)).answer) v ∙ ap (λ (b : Bool). asked_by (cond b (R.answered i) (R.idle i)).answer) f
 
-pub asks_refused : (i : R.In) (k : ℕ) → verdict (R.refusals i) ≡ suc k → asks (inr i) ≡ One Refused
+pub asks_refused : (i : R.In) (k : Refusal) → verdict (R.refusals i) ≡ Err k → asks (inr i) ≡ Some Refused
 unfolding outcome
-asks_refused i k v = ap (λ (k : ℕ). asked_by (by k (R.work i) (λ j. (R.door).refuse j i)).answer) v
+asks_refused i k v = ap (λ (v : Verdict). asked_by (by v (R.work i) (λ j. (R.door).refuse j i)).answer) v
 
-asked_as : (s : Stepped) (g : Float) → asked_by (R.answer_of s g) ≡ asked_of s
-asked_as (steps.Refused k) g = refl
-asked_as steps.Direct g = refl
-asked_as (steps.Iterated o) g = refl
+asked_as : (s : Result Stepped Refusal) (g : Float) → asked_by (R.answer_of s g) ≡ asked_of s
+asked_as (Err k) g = refl
+asked_as (Ok steps.Direct) g = refl
+asked_as (Ok (steps.Iterated o)) g = refl
 
-pub asks_one : (i : R.In) → verdict (R.refusals i) ≡ 0 → R.asks i ≡ true → asks (inr i) ≡ asked_of (S.work (R.for_step i (R.rhs_of i))).answer
+pub asks_one : (i : R.In) → verdict (R.refusals i) ≡ Ok tt → R.asks i ≡ true → asks (inr i) ≡ asked_of (S.work (R.for_step i (R.rhs_of i))).answer
 unfolding outcome R.work R.answered
 asks_one i v f =
     let s = S.work (R.for_step i (R.rhs_of i)) in
-    ap (λ (k : ℕ). asked_by (by k (R.work i) (λ j. (R.door).refuse j i)).answer) v ∙ ap (λ (b : Bool). asked_by (cond b (R.answered i) (R.idle i)).answer) f
+    ap (λ (v : Verdict). asked_by (by v (R.work i) (λ j. (R.door).refuse j i)).answer) v ∙ ap (λ (b : Bool). asked_by (cond b (R.answered i) (R.idle i)).answer) f
     ∙ asked_as s.answer (gain_of (raw_gain i.pinned i.count i.particles i.gradients s.x))
 
 -- ---- a sequence of calls

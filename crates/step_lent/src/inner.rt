@@ -1,44 +1,23 @@
 // The two calls are thin functions over the doors: each lends a record of its own.
-ghost use Rattle.std.specs.Prelude.{◌≡◌};
+// Lists lent by `&mut` stay parameters: in a struct each clause would have to say that every field keeps its reference.
 ghost use Rattle.law.specs.Promise.{Counted};
+ghost use Rattle.step_routes.specs.System.{system_of};
+ghost use Rattle.step_entries.specs.Lent.{entered_of};
 ghost use Rattle.step_solve.specs.Stepping as stepping;
 ghost use Rattle.step_response.specs.Responding as responding;
 ghost use Rattle.step_counts.specs.Counting.{after_step, after_response};
 
-use crate::{AfterResponse, AfterStep};
+use crate::After;
+use law::refusal::Refusal;
+use step_entries::entries::Entries;
 use step_response::Responded;
+use step_routes::system::System;
 use step_solve::Stepped;
 use step_tally::Tally;
 
-fn after_step(answer: Stepped, tally: Tally) -> AfterStep
-    ensures { (result.answer ≡ answer) × (result.tally ≡ tally) }
-{
-    AfterStep { answer, tally }
-}
-
-fn after_response(answer: Responded, tally: Tally) -> AfterResponse
-    ensures { (result.answer ≡ answer) × (result.tally ≡ tally) }
-{
-    AfterResponse { answer, tally }
-}
-
 pub fn solve_step(
-    n: usize,
-    row_offsets: &[u32],
-    cols: &[u32],
-    diagonal: &[u32],
-    blocks: &[f32],
-    perm: &[u32],
-    inv_perm: &[u32],
-    first: &[u32],
-    row_start: &[u32],
-    values: &[f32],
-    factored: bool,
-    preconditioner: &[f32],
+    system: &System,
     b: &[f32],
-    tolerance: f32,
-    max_iterations: usize,
-    max_dense_dofs: usize,
     x: &mut [f32],
     scratch: &mut [f32],
     residual: &mut [f32],
@@ -46,11 +25,9 @@ pub fn solve_step(
     a_direction: &mut [f32],
     z: &mut [f32],
     tally: Tally,
-) -> AfterStep
+) -> After<Result<Stepped, Refusal>>
     ensures { Counted stepping.door after_step
-        (stepping.given n row_offsets.now cols.now diagonal.now blocks.now perm.now
-        inv_perm.now first.now row_start.now values.now factored preconditioner.now
-        b.now tolerance max_iterations max_dense_dofs x.old scratch.old residual.old
+        (stepping.given (system_of system.now) b.now x.old scratch.old residual.old
         direction.old a_direction.old z.old)
         tally
         (stepping.left result.answer x.new scratch.new residual.new direction.new a_direction.new
@@ -58,23 +35,9 @@ pub fn solve_step(
         result.tally }
 {
     let mut lent = tally;
-    let answer = step_doors::solve_step(
-        n,
-        row_offsets,
-        cols,
-        diagonal,
-        blocks,
-        perm,
-        inv_perm,
-        first,
-        row_start,
-        values,
-        factored,
-        preconditioner,
+    let stepped = step_doors::solve_step(
+        system,
         b,
-        tolerance,
-        max_iterations,
-        max_dense_dofs,
         x,
         scratch,
         residual,
@@ -83,29 +46,16 @@ pub fn solve_step(
         z,
         &mut lent,
     );
-    after_step(answer, lent)
+    After {
+        answer: stepped,
+        tally: lent,
+    }
 }
 
 pub fn response_into(
-    n: usize,
-    row_offsets: &[u32],
-    cols: &[u32],
-    diagonal: &[u32],
-    blocks: &[f32],
-    perm: &[u32],
-    inv_perm: &[u32],
-    first: &[u32],
-    row_start: &[u32],
-    values: &[f32],
-    factored: bool,
-    preconditioner: &[f32],
-    tolerance: f32,
-    max_iterations: usize,
-    max_dense_dofs: usize,
+    system: &System,
     pinned: &[u8],
-    count: usize,
-    particles: &[u32],
-    gradients: &[f32],
+    entries: &Entries,
     out: &mut [f32],
     rhs: &mut [f32],
     scratch: &mut [f32],
@@ -114,38 +64,20 @@ pub fn response_into(
     a_direction: &mut [f32],
     z: &mut [f32],
     tally: Tally,
-) -> AfterResponse
+) -> After<Result<Responded, Refusal>>
     ensures { Counted responding.door after_response
-        (responding.given n row_offsets.now cols.now diagonal.now blocks.now perm.now
-        inv_perm.now first.now row_start.now values.now factored preconditioner.now
-        tolerance max_iterations max_dense_dofs pinned.now count particles.now gradients.now out.old
-        rhs.old scratch.old residual.old direction.old a_direction.old z.old)
+        (responding.given (system_of system.now) pinned.now (entered_of entries.now) out.old rhs.old
+        scratch.old residual.old direction.old a_direction.old z.old)
         tally
         (responding.left result.answer out.new rhs.new scratch.new residual.new direction.new
         a_direction.new z.new)
         result.tally }
 {
     let mut lent = tally;
-    let answer = step_doors::response_into(
-        n,
-        row_offsets,
-        cols,
-        diagonal,
-        blocks,
-        perm,
-        inv_perm,
-        first,
-        row_start,
-        values,
-        factored,
-        preconditioner,
-        tolerance,
-        max_iterations,
-        max_dense_dofs,
+    let responded = step_doors::response_into(
+        system,
         pinned,
-        count,
-        particles,
-        gradients,
+        entries,
         out,
         rhs,
         scratch,
@@ -155,5 +87,8 @@ pub fn response_into(
         z,
         &mut lent,
     );
-    after_response(answer, lent)
+    After {
+        answer: responded,
+        tally: lent,
+    }
 }

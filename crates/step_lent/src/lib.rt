@@ -2,21 +2,13 @@
 // the answer. So covered code goes through the doors, as the replay does.
 #![tactic(auto)]
 
-use step_response::Responded;
-use step_solve::Stepped;
 use step_tally::Tally;
 
 pub mod inner;
 
-// What a step solve answered, and the record after it.
+// What a call answered, and the record after it.
 #[derive(Clone, Copy)]
-pub struct AfterStep {
-    pub answer: Stepped,
-    pub tally: Tally,
-}
-
-#[derive(Clone, Copy)]
-pub struct AfterResponse {
-    pub answer: Responded,
+pub struct After<T> {
+    pub answer: T,
     pub tally: Tally,
 }

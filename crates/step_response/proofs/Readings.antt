@@ -4,6 +4,9 @@ use mathlib.Core.Path.{◌≡◌, refl, ap}
 use mathlib.Core.Bool.{true, false}
 use mathlib.Core.List.{List, [], ◌∷◌}
 use lib.Ieee.{Float, nan, inf, binary32, of_bits, add, sub, mul, div, neg, lt, le, eq, ne}
+use Rattle.std.specs.Prelude.{Ok, Err}
+use Rattle.law.specs.declared.refusal.Refusal.{Refusal}
+use Rattle.law.specs.declared.refusal.Refusal.TheVariants.{TooManyEntries, OutOfRange, BadSettings}
 use Rattle.law.specs.Loop.{fold, over}
 use Rattle.law.specs.Every.{every, some}
 use Rattle.law.specs.Gather.{gather}
@@ -17,7 +20,11 @@ use Rattle.vectors.specs.Whole.{dot_all}
 use Rattle.matrix_shape.specs.Formed.{slot_ok as columnOk, home_ok, row_ok as columnsOk, stored, mirrors_ok, starts_ok as offsetsOk, well_formed}
 use Rattle.matrix_shape.specs.Given.{pattern_room, formed}
 use Rattle.plan_fits.specs.Fits.{back_ok, undo_ok, twins_ok, firsts_ok, grow_ok, starts_ok, plan_rules_ok, slot_ok, row_ok, inside_ok, fits_ok}
+use Rattle.matrix_shape.specs.Shape.{shape}
 use Rattle.plan_fits.specs.Given.{plan_room, factor_length}
+use Rattle.plan_fits.specs.Layout.{layout}
+use Rattle.step_routes.specs.System.{system}
+use Rattle.step_entries.specs.Lent.{entered}
 use Rattle.factor_passes.specs.Passes.{row_sum as solvedSum, forward_by, forward_step, forward_of, taken_of, back_step, backward_of}
 use Rattle.factor_substitution.specs.Solve.{permuted, placed_of, solve_of}
 use Rattle.matrix_values.specs.Product.{slot_step, row_sum, product_at}
@@ -29,7 +36,7 @@ use Rattle.gradient_refusals.specs.Settings.{settings_ok}
 use Rattle.gradient_doors.specs.Solving as G
 use Rattle.step_routes.specs.Dense.{swept, plan_held, step_held, structural, later}
 use Rattle.step_solve.specs.Stepping as S
-use Rattle.step_response.specs.declared.Responded.TheVariants.{Refused, Nothing, Direct, Iterated}
+use Rattle.step_response.specs.declared.Responded.TheVariants.{Nothing, Direct, Iterated}
 use Rattle.step_entries.specs.Entries.{entries_room, below, free, any_free, load_step, loaded, gain_step, raw_gain, gain_of}
 use Rattle.step_response.specs.Responding.{Out, given, left, refusals, idle, rhs_of, answered, work, door}
 
@@ -74,8 +81,10 @@ anti = minus_one ∷ zero32 ∷ zero32 ∷ minus_one ∷ []
 -- the block, the limit, the tolerance, max_dense_dofs, the pinned mark and the entries are given; the mark of the factor is set
 asked : List Float → ℕ → Float → ℕ → ℕ → ℕ → List ℕ → List Float → Out
 asked block limit tolerance dofs pinned count particles gradients =
-    outcome door (given 1 (0 ∷ 1 ∷ []) (0 ∷ []) (0 ∷ []) block (0 ∷ []) (0 ∷ []) (0 ∷ 0 ∷ []) (0 ∷ 1 ∷ 3 ∷ []) (one32 ∷ zero32 ∷ one32 ∷ []) true eye
-    tolerance limit dofs (pinned ∷ []) count particles gradients junk junk junk junk junk junk junk)
+    outcome door (given
+    (system (shape 1 (0 ∷ 1 ∷ []) (0 ∷ []) (0 ∷ [])) block (layout (0 ∷ []) (0 ∷ []) (0 ∷ 0 ∷ []) (0 ∷ 1 ∷ 3 ∷ [])) (one32 ∷ zero32 ∷ one32 ∷ []) true eye
+    tolerance limit dofs)
+    (pinned ∷ []) (entered count particles gradients) junk junk junk junk junk junk junk)
 
 -- the identity, with one turn
 handed : Float → ℕ → ℕ → ℕ → List ℕ → List Float → Out
@@ -83,11 +92,11 @@ handed = asked eye 1
 
 -- answered by the factor, with this gain and this solution
 solves : Float → Float → Float → Out
-solves gain x y = left (Direct gain) (x ∷ y ∷ nan ∷ []) none none none none none none
+solves gain x y = left (Ok (Direct gain)) (x ∷ y ∷ nan ∷ []) none none none none none none
 
--- refused by a number, and nothing changed
-no : ℕ → Out
-no k = left (Refused k) junk junk junk junk junk junk junk
+-- refused, and nothing changed
+no : Refusal → Out
+no k = left (Err k) junk junk junk junk junk junk junk
 
 record Readings : Type 0 where
   -- one entry; two on one particle add up, and each counts in the gain: 1 * 3 + 2 * 3 + 4 * 4
@@ -95,16 +104,16 @@ record Readings : Type 0 where
   two_add_up : handed zero32 2 0 2 (0 ∷ 0 ∷ []) (one32 ∷ zero32 ∷ two ∷ four ∷ []) ≡ solves twentyfive three four
   -- above max_dense_dofs by iteration, which leaves the scratch
   iterated : handed zero32 1 0 2 (0 ∷ 0 ∷ []) (one32 ∷ zero32 ∷ two ∷ four ∷ [])
-      ≡ left (Iterated twentyfive (Converged 1 zero32)) (three ∷ four ∷ nan ∷ []) none junk none none none none
+      ≡ left (Ok (Iterated twentyfive (Converged 1 zero32))) (three ∷ four ∷ nan ∷ []) none junk none none none none
   -- the other ways of ending, each from x = 0, whose gain is +0.0: a right-hand side of zeros, near enough, bent by minus the identity, no turn
-  nought : handed zero32 1 0 1 (0 ∷ []) (zero32 ∷ zero32 ∷ []) ≡ left (Iterated zero32 (Zero 0)) none none junk none none none none
-  near : handed one32 1 0 1 (0 ∷ []) (three ∷ four ∷ []) ≡ left (Iterated zero32 (Near 0 twentyfive)) none none junk none none none none
+  nought : handed zero32 1 0 1 (0 ∷ []) (zero32 ∷ zero32 ∷ []) ≡ left (Ok (Iterated zero32 (Zero 0))) none none junk none none none none
+  near : handed one32 1 0 1 (0 ∷ []) (three ∷ four ∷ []) ≡ left (Ok (Iterated zero32 (Near 0 twentyfive))) none none junk none none none none
   bent : asked anti 1 zero32 1 0 1 (0 ∷ []) (three ∷ four ∷ [])
-      ≡ left (Iterated zero32 (Curvature 0 twentyfive minus_twentyfive)) none none junk none none none none
-  no_turn : asked eye 0 zero32 1 0 1 (0 ∷ []) (three ∷ four ∷ []) ≡ left (Iterated zero32 (Limit 0 twentyfive)) none none junk none none none none
+      ≡ left (Ok (Iterated zero32 (Curvature 0 twentyfive minus_twentyfive))) none none junk none none none none
+  no_turn : asked eye 0 zero32 1 0 1 (0 ∷ []) (three ∷ four ∷ []) ≡ left (Ok (Iterated zero32 (Limit 0 twentyfive))) none none junk none none none none
   -- every entry is pinned, by any mark but 0; or there is none: zeros, and nothing is asked for
-  pinned : handed zero32 2 7 2 (0 ∷ 0 ∷ []) (one32 ∷ zero32 ∷ two ∷ four ∷ []) ≡ left Nothing none none none none none none none
-  no_entries : handed zero32 2 0 0 [] [] ≡ left Nothing none none none none none none none
+  pinned : handed zero32 2 7 2 (0 ∷ 0 ∷ []) (one32 ∷ zero32 ∷ two ∷ four ∷ []) ≡ left (Ok Nothing) none none none none none none none
+  no_entries : handed zero32 2 0 0 [] [] ≡ left (Ok Nothing) none none none none none none none
   -- a gain of NaN is +0.0
   nan_gain : handed zero32 2 0 1 (0 ∷ []) (nan ∷ zero32 ∷ []) ≡ solves zero32 nan nan
   -- a gain below zero is +0.0: rounding makes the right-hand side 3, and the gain's sum 3 *
@@ -116,11 +125,11 @@ record Readings : Type 0 where
       ∷ huge ∷ zero32 ∷ three ∷ zero32 ∷ []) (three ∷ zero32 ∷ [])
       ≡ neg three
   -- by number: 17 entries, before the room for them; a particle at n, before the settings; the settings on either route
-  two_refused : handed nan 2 0 17 [] [] ≡ no 2
-  four_refused : handed nan 2 0 2 (0 ∷ 1 ∷ []) (one32 ∷ zero32 ∷ two ∷ four ∷ []) ≡ no 4
-  eight_refused : handed nan 2 0 2 (0 ∷ 0 ∷ []) (one32 ∷ zero32 ∷ two ∷ four ∷ []) ≡ no 8
+  two_refused : handed nan 2 0 17 [] [] ≡ no TooManyEntries
+  four_refused : handed nan 2 0 2 (0 ∷ 1 ∷ []) (one32 ∷ zero32 ∷ two ∷ four ∷ []) ≡ no OutOfRange
+  eight_refused : handed nan 2 0 2 (0 ∷ 0 ∷ []) (one32 ∷ zero32 ∷ two ∷ four ∷ []) ≡ no BadSettings
   -- even where no entry is left
-  eight_pinned : handed (inf false) 1 1 1 (0 ∷ []) (one32 ∷ zero32 ∷ []) ≡ no 8
+  eight_pinned : handed (inf false) 1 1 1 (0 ∷ []) (one32 ∷ zero32 ∷ []) ≡ no BadSettings
 
 readings : Readings
 unfolding asked handed solves no outcome refusals work answered idle rhs_of entries_room below free any_free load_step loaded gain_step raw_gain gain_of written

@@ -1,16 +1,19 @@
 // The work of a response, once its tests have passed.
-ghost use Rattle.std.specs.Prelude.{◌≡◌};
-ghost use Rattle.step_response.specs.Responding.{given, left, Ready, answer_of, answered, work};
+// Lists lent by `&mut` stay parameters: in a struct each clause would have to say that every field keeps its reference.
+ghost use Rattle.std.specs.Prelude.{◌≡◌, Ok};
+ghost use Rattle.step_routes.specs.System.{system_of};
+ghost use Rattle.step_entries.specs.Lent.{entered_of};
+ghost use Rattle.step_response.specs.Responding.{given, left, Ready, responded_of, answered, work};
 
 use crate::Responded;
-use step_entries::entries;
+use step_entries::entries::{Entries, gain_of};
+use step_routes::system::System;
 use step_solve::Stepped;
 
 fn answer(how: Stepped, gain: f32) -> Responded
-    ensures { result ≡ answer_of how gain }
+    ensures { result ≡ responded_of how gain }
 {
     match how {
-        Stepped::Refused(no) => Responded::Refused(no),
         Stepped::Direct => Responded::Direct { gain },
         Stepped::Iterated(how) => Responded::Iterated { gain, how },
     }
@@ -18,25 +21,9 @@ fn answer(how: Stepped, gain: f32) -> Responded
 
 // Some entry is left: its step solve, and the gain.
 fn solve(
-    n: usize,
-    row_offsets: &[u32],
-    cols: &[u32],
-    diagonal: &[u32],
-    blocks: &[f32],
-    perm: &[u32],
-    inv_perm: &[u32],
-    first: &[u32],
-    row_start: &[u32],
-    values: &[f32],
-    factored: bool,
-    preconditioner: &[f32],
-    tolerance: f32,
-    max_iterations: usize,
-    max_dense_dofs: usize,
+    system: &System,
     pinned: &[u8],
-    count: usize,
-    particles: &[u32],
-    gradients: &[f32],
+    entries: &Entries,
     out: &mut [f32],
     rhs: &mut [f32],
     scratch: &mut [f32],
@@ -46,35 +33,19 @@ fn solve(
     z: &mut [f32],
 ) -> Responded
     requires { Ready
-        (given n row_offsets.now cols.now diagonal.now blocks.now perm.now inv_perm.now first.now row_start.now
-        values.now factored preconditioner.now tolerance max_iterations max_dense_dofs pinned.now count particles.now gradients.now
-        out.old rhs.old scratch.old residual.old direction.old a_direction.old z.old) }
-    ensures { left result out.new rhs.new scratch.new residual.new direction.new
+        (given (system_of system.now) pinned.now (entered_of entries.now) out.old rhs.old scratch.old residual.old
+        direction.old a_direction.old z.old) }
+    ensures { left (Ok result) out.new rhs.new scratch.new residual.new direction.new
         a_direction.new z.new ≡ answered
-        (given n row_offsets.now cols.now diagonal.now blocks.now perm.now
-        inv_perm.now first.now row_start.now values.now factored preconditioner.now
-        tolerance max_iterations max_dense_dofs pinned.now count particles.now gradients.now out.old
-        rhs.old scratch.old residual.old direction.old a_direction.old z.old) }
+        (given (system_of system.now) pinned.now (entered_of entries.now) out.old rhs.old scratch.old
+        residual.old direction.old a_direction.old z.old) }
 {
+    let n = system.pattern.n;
     vectors::inner::clear(n, rhs);
-    entries::load(n, pinned, count, particles, gradients, rhs);
+    entries.load(n, pinned, rhs);
     let how = step_solve::front::route(
-        n,
-        row_offsets,
-        cols,
-        diagonal,
-        blocks,
-        perm,
-        inv_perm,
-        first,
-        row_start,
-        values,
-        factored,
-        preconditioner,
+        system,
         rhs,
-        tolerance,
-        max_iterations,
-        max_dense_dofs,
         out,
         scratch,
         residual,
@@ -82,31 +53,15 @@ fn solve(
         a_direction,
         z,
     );
-    let raw = entries::raw_gain(n, pinned, count, particles, gradients, out);
+    let raw = entries.raw_gain(n, pinned, out);
     vectors::inner::clear(n, rhs);
-    answer(how, entries::gain_of(raw))
+    answer(how, gain_of(raw))
 }
 
 pub fn respond(
-    n: usize,
-    row_offsets: &[u32],
-    cols: &[u32],
-    diagonal: &[u32],
-    blocks: &[f32],
-    perm: &[u32],
-    inv_perm: &[u32],
-    first: &[u32],
-    row_start: &[u32],
-    values: &[f32],
-    factored: bool,
-    preconditioner: &[f32],
-    tolerance: f32,
-    max_iterations: usize,
-    max_dense_dofs: usize,
+    system: &System,
     pinned: &[u8],
-    count: usize,
-    particles: &[u32],
-    gradients: &[f32],
+    entries: &Entries,
     out: &mut [f32],
     rhs: &mut [f32],
     scratch: &mut [f32],
@@ -116,37 +71,19 @@ pub fn respond(
     z: &mut [f32],
 ) -> Responded
     requires { Ready
-        (given n row_offsets.now cols.now diagonal.now blocks.now perm.now inv_perm.now first.now row_start.now
-        values.now factored preconditioner.now tolerance max_iterations max_dense_dofs pinned.now count particles.now gradients.now
-        out.old rhs.old scratch.old residual.old direction.old a_direction.old z.old) }
-    ensures { left result out.new rhs.new scratch.new residual.new direction.new
+        (given (system_of system.now) pinned.now (entered_of entries.now) out.old rhs.old scratch.old residual.old
+        direction.old a_direction.old z.old) }
+    ensures { left (Ok result) out.new rhs.new scratch.new residual.new direction.new
         a_direction.new z.new ≡ work
-        (given n row_offsets.now cols.now diagonal.now blocks.now perm.now
-        inv_perm.now first.now row_start.now values.now factored preconditioner.now
-        tolerance max_iterations max_dense_dofs pinned.now count particles.now gradients.now out.old
-        rhs.old scratch.old residual.old direction.old a_direction.old z.old) }
+        (given (system_of system.now) pinned.now (entered_of entries.now) out.old rhs.old scratch.old
+        residual.old direction.old a_direction.old z.old) }
 {
-    if entries::any_free(n, pinned, count, particles, gradients) {
+    let n = system.pattern.n;
+    if entries.any_free(n, pinned) {
         return solve(
-            n,
-            row_offsets,
-            cols,
-            diagonal,
-            blocks,
-            perm,
-            inv_perm,
-            first,
-            row_start,
-            values,
-            factored,
-            preconditioner,
-            tolerance,
-            max_iterations,
-            max_dense_dofs,
+            system,
             pinned,
-            count,
-            particles,
-            gradients,
+            entries,
             out,
             rhs,
             scratch,
@@ -158,7 +95,7 @@ pub fn respond(
     }
     vectors::inner::clear(n, out);
     vectors::inner::clear(n, rhs);
-    step_routes::front::sweep(2 * n <= max_dense_dofs, n, scratch);
+    step_routes::front::sweep(system.dense(), n, scratch);
     step_routes::front::clear4(n, residual, direction, a_direction, z);
     Responded::Nothing
 }

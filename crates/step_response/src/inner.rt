@@ -1,29 +1,19 @@
-// The response without its tally: it tests all that it is handed, refuses by number or does the work.
+// The response without its tally: it tests all that it is handed, refuses or does the work.
 ghost use Rattle.law.specs.Promise.{Promise};
+ghost use Rattle.step_routes.specs.System.{system_of};
+ghost use Rattle.step_entries.specs.Lent.{entered_of};
 ghost use Rattle.step_response.specs.Responding.{given, left, door};
 
 use crate::{Responded, front, refuse};
+use law::refusal::Refusal;
+use step_entries::entries::Entries;
+use step_routes::system::System;
 
+#[tactic(auto, unfolding(law::specs::Promise::outcome))]
 pub fn response_into(
-    n: usize,
-    row_offsets: &[u32],
-    cols: &[u32],
-    diagonal: &[u32],
-    blocks: &[f32],
-    perm: &[u32],
-    inv_perm: &[u32],
-    first: &[u32],
-    row_start: &[u32],
-    values: &[f32],
-    factored: bool,
-    preconditioner: &[f32],
-    tolerance: f32,
-    max_iterations: usize,
-    max_dense_dofs: usize,
+    system: &System,
     pinned: &[u8],
-    count: usize,
-    particles: &[u32],
-    gradients: &[f32],
+    entries: &Entries,
     out: &mut [f32],
     rhs: &mut [f32],
     scratch: &mut [f32],
@@ -31,35 +21,17 @@ pub fn response_into(
     direction: &mut [f32],
     a_direction: &mut [f32],
     z: &mut [f32],
-) -> Responded
+) -> Result<Responded, Refusal>
     ensures { Promise door
-        (given n row_offsets.now cols.now diagonal.now blocks.now perm.now
-        inv_perm.now first.now row_start.now values.now factored preconditioner.now
-        tolerance max_iterations max_dense_dofs pinned.now count particles.now gradients.now out.old
-        rhs.old scratch.old residual.old direction.old a_direction.old z.old)
+        (given (system_of system.now) pinned.now (entered_of entries.now) out.old rhs.old scratch.old
+        residual.old direction.old a_direction.old z.old)
         (left result out.new rhs.new scratch.new residual.new direction.new a_direction.new
         z.new) }
 {
-    let no = refuse::responding(
-        n,
-        row_offsets,
-        cols,
-        diagonal,
-        blocks,
-        perm,
-        inv_perm,
-        first,
-        row_start,
-        values,
-        factored,
-        preconditioner,
-        tolerance,
-        max_iterations,
-        max_dense_dofs,
+    refuse::responding(
+        system,
         pinned,
-        count,
-        particles,
-        gradients,
+        entries,
         out,
         rhs,
         scratch,
@@ -67,30 +39,11 @@ pub fn response_into(
         direction,
         a_direction,
         z,
-    );
-    if no != 0 {
-        return Responded::Refused(no);
-    }
-    front::respond(
-        n,
-        row_offsets,
-        cols,
-        diagonal,
-        blocks,
-        perm,
-        inv_perm,
-        first,
-        row_start,
-        values,
-        factored,
-        preconditioner,
-        tolerance,
-        max_iterations,
-        max_dense_dofs,
+    )?;
+    Ok(front::respond(
+        system,
         pinned,
-        count,
-        particles,
-        gradients,
+        entries,
         out,
         rhs,
         scratch,
@@ -98,5 +51,5 @@ pub fn response_into(
         direction,
         a_direction,
         z,
-    )
+    ))
 }

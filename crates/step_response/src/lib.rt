@@ -9,9 +9,9 @@ pub mod inner;
 mod refuse;
 
 // The gain, and how the step solve that was asked for ended. `Nothing`: no entry is left, none was asked for, and the gain is +0.0.
+// Three answers of one call, each with numbers of its own over C: an Option would leave the other two in an enum of their own.
 #[derive(Clone, Copy)]
 pub enum Responded {
-    Refused(u8),
     Nothing,
     Direct { gain: f32 },
     Iterated { gain: f32, how: Outcome },

@@ -1,30 +1,20 @@
-// The number that a response is refused by. Tests run in phases, so that none reads past a list's end.
+// The refusal of a response. Tests run in phases, so that none reads past a list's end.
+// The lists to be written come as the calls have them, one by one.
 ghost use Rattle.std.specs.Prelude.{◌≡◌};
 ghost use Rattle.law.specs.Refusal.{verdict};
+ghost use Rattle.step_routes.specs.System.{system_of};
+ghost use Rattle.step_entries.specs.Lent.{entered_of};
 ghost use Rattle.step_response.specs.Responding.{given, refusals};
 
-use step_entries::entries;
+use law::refusal::{Refusal, ensure};
+use step_entries::entries::Entries;
+use step_routes::system::System;
 
+#[tactic(auto, unfolding(law::specs::Refusal::verdict, crate::specs::Responding::refusals))]
 pub fn responding(
-    n: usize,
-    row_offsets: &[u32],
-    cols: &[u32],
-    diagonal: &[u32],
-    blocks: &[f32],
-    perm: &[u32],
-    inv_perm: &[u32],
-    first: &[u32],
-    row_start: &[u32],
-    values: &[f32],
-    factored: bool,
-    preconditioner: &[f32],
-    tolerance: f32,
-    max_iterations: usize,
-    max_dense_dofs: usize,
+    system: &System,
     pinned: &[u8],
-    count: usize,
-    particles: &[u32],
-    gradients: &[f32],
+    entries: &Entries,
     out: &[f32],
     rhs: &[f32],
     scratch: &[f32],
@@ -32,60 +22,28 @@ pub fn responding(
     direction: &[f32],
     a_direction: &[f32],
     z: &[f32],
-) -> u8
+) -> Result<(), Refusal>
     ensures { result ≡ verdict
-        (refusals (given n row_offsets.now cols.now diagonal.now blocks.now perm.now
-        inv_perm.now first.now row_start.now values.now factored preconditioner.now
-        tolerance max_iterations max_dense_dofs pinned.now count particles.now gradients.now out.now
-        rhs.now scratch.now residual.now direction.now a_direction.now z.now)) }
+        (refusals (given (system_of system.now) pinned.now (entered_of entries.now) out.now rhs.now
+        scratch.now residual.now direction.now a_direction.now z.now)) }
 {
-    if law::PARTICLES < n {
-        return law::refusal::TOO_MANY_PARTICLES;
-    }
-    if law::ENTRIES < count {
-        return law::refusal::TOO_MANY_ENTRIES;
-    }
-    let dense = 2 * n <= max_dense_dofs;
-    if !step_routes::refuse::room(
-        dense,
-        n,
-        row_offsets,
-        cols,
-        diagonal,
-        blocks,
-        perm,
-        inv_perm,
-        first,
-        row_start,
-        values,
-        preconditioner,
-        rhs,
-        out,
-        scratch,
-        residual,
-        direction,
-        a_direction,
-        z,
-    ) {
-        return law::refusal::SHORT_BUFFER;
-    }
-    if !entries::entries_room(n, pinned, count, particles, gradients) {
-        return law::refusal::SHORT_BUFFER;
-    }
-    if !entries::all_below(n, count, particles) {
-        return law::refusal::OUT_OF_RANGE;
-    }
-    step_routes::refuse::later(
-        dense,
-        n,
-        row_offsets,
-        cols,
-        diagonal,
-        perm,
-        inv_perm,
-        first,
-        row_start,
-        tolerance,
-        max_iterations,
-    )
+    let n = system.pattern.n;
+    ensure(n <= law::PARTICLES, Refusal::TooManyParticles)?;
+    ensure(entries.count <= law::ENTRIES, Refusal::TooManyEntries)?;
+    ensure(
+        step_routes::refuse::room(
+            system,
+            rhs,
+            out,
+            scratch,
+            residual,
+            direction,
+            a_direction,
+            z,
+        ),
+        Refusal::ShortBuffer,
+    )?;
+    ensure(entries.has_room(n, pinned), Refusal::ShortBuffer)?;
+    ensure(entries.all_below(n), Refusal::OutOfRange)?;
+    step_routes::refuse::later(system)
 }

@@ -1,9 +1,11 @@
 // The buffers that a route leaves zeroed, and the iteration from zero.
-ghost use Rattle.std.specs.Prelude.{◌≡◌, true, ◌*◌, ◌≤◌, length};
-ghost use Rattle.gradient_doors.specs.declared.Solved.TheVariants.{Ran};
+// Lists lent by `&mut` stay parameters: in a struct each clause would have to say that every field keeps its reference.
+ghost use Rattle.std.specs.Prelude.{◌≡◌, true, ◌*◌, ◌≤◌, length, Ok};
 ghost use Rattle.gradient_doors.specs.Solving as G;
-ghost use Rattle.step_routes.specs.Dense.{cleared, swept};
+ghost use Rattle.step_routes.specs.Dense.{cleared, swept, for_gradient};
+ghost use Rattle.step_routes.specs.System.{system_of};
 
+use crate::system::System;
 use gradient_definition::Outcome;
 
 pub fn clear4(n: usize, a: &mut [f32], b: &mut [f32], c: &mut [f32], d: &mut [f32])
@@ -18,6 +20,7 @@ pub fn clear4(n: usize, a: &mut [f32], b: &mut [f32], c: &mut [f32], d: &mut [f3
 }
 
 // The scratch is a work buffer only where the plan counts.
+#[tactic(auto, unfolding(crate::specs::Dense::swept))]
 pub fn sweep(dense: bool, n: usize, scratch: &mut [f32])
     requires { dense ≡ true → 2 * n ≤ length scratch.old }
     ensures { scratch.new ≡ swept dense n scratch.old }
@@ -28,15 +31,8 @@ pub fn sweep(dense: bool, n: usize, scratch: &mut [f32])
 }
 
 pub fn solve_from_zero(
-    n: usize,
-    row_offsets: &[u32],
-    cols: &[u32],
-    diagonal: &[u32],
-    blocks: &[f32],
-    preconditioner: &[f32],
+    system: &System,
     b: &[f32],
-    tolerance: f32,
-    max_iterations: usize,
     x: &mut [f32],
     residual: &mut [f32],
     direction: &mut [f32],
@@ -44,24 +40,18 @@ pub fn solve_from_zero(
     z: &mut [f32],
 ) -> Outcome
     requires { G.Ready
-        (G.given n row_offsets.now cols.now diagonal.now blocks.now preconditioner.now b.now tolerance max_iterations x.old
-        residual.old direction.old a_direction.old z.old) }
-    ensures { G.left (Ran result) x.new residual.new direction.new a_direction.new z.new ≡ G.work
-        (G.given n row_offsets.now cols.now diagonal.now blocks.now preconditioner.now
-        b.now tolerance max_iterations (cleared n x.old) residual.old direction.old
-        a_direction.old z.old) }
+        (for_gradient (system_of system.now) b.now x.old residual.old direction.old a_direction.old z.old) }
+    ensures { G.left (Ok result) x.new residual.new direction.new a_direction.new z.new ≡ G.work
+        (for_gradient (system_of system.now) b.now (cleared system.now.pattern.n x.old) residual.old
+        direction.old a_direction.old z.old) }
 {
-    vectors::inner::clear(n, x);
+    vectors::inner::clear(system.pattern.n, x);
     gradient_doors::front::solve(
-        n,
-        row_offsets,
-        cols,
-        diagonal,
-        blocks,
-        preconditioner,
+        &system.pattern,
+        system.blocks,
+        system.preconditioner,
         b,
-        tolerance,
-        max_iterations,
+        system.settings,
         x,
         residual,
         direction,

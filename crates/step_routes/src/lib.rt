@@ -5,3 +5,4 @@
 pub mod dense;
 pub mod front;
 pub mod refuse;
+pub mod system;

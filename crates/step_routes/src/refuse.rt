@@ -1,25 +1,23 @@
-// The numbers that calls of a step are refused by for room, pattern, plan and settings. Tests run in phases, so that none reads past a list's end.
+// The refusals of a step's calls for room, pattern, plan and settings. Tests run in phases, so that none reads past a list's end.
+// The lists to be written come as the calls have them, one by one; `dense` stands beside a plan, as in dense.rt.
 ghost use Rattle.std.specs.Prelude.{◌≡◌, ◌≤◌};
 ghost use Rattle.law.specs.Limit.{particles};
 ghost use Rattle.law.specs.Refusal.{verdict};
-ghost use Rattle.step_routes.specs.Dense.{step_held, structural, later, Roomy};
+ghost use Rattle.matrix_shape.specs.Shape.{lists};
+ghost use Rattle.plan_fits.specs.Layout.{plan_lists};
+ghost use Rattle.step_routes.specs.Dense.{system_held, structural_of, later_of, IsRoomy, IsRoomySystem};
+ghost use Rattle.step_routes.specs.System.{system_of};
 
 use crate::dense;
+use crate::system::System;
+use law::refusal::{Refusal, ensure};
+use matrix_shape::pattern::Pattern;
+use plan_fits::plan::Plan;
 
 // Whether a step solve's lists have room.
+#[tactic(auto, unfolding(crate::specs::Dense::step_held), using(matrix_shape::specs::Given::held))]
 pub fn room(
-    dense: bool,
-    n: usize,
-    row_offsets: &[u32],
-    cols: &[u32],
-    diagonal: &[u32],
-    blocks: &[f32],
-    perm: &[u32],
-    inv_perm: &[u32],
-    first: &[u32],
-    row_start: &[u32],
-    values: &[f32],
-    preconditioner: &[f32],
+    system: &System,
     b: &[f32],
     x: &[f32],
     scratch: &[f32],
@@ -28,20 +26,17 @@ pub fn room(
     a_direction: &[f32],
     z: &[f32],
 ) -> bool
-    requires { n ≤ particles }
-    ensures { result ≡ step_held dense n row_offsets.now cols.now diagonal.now blocks.now
-        perm.now inv_perm.now first.now row_start.now values.now
-        preconditioner.now b.now x.now scratch.now residual.now
+    requires { system.now.pattern.n ≤ particles }
+    ensures { result ≡ system_held (system_of system.now) b.now x.now scratch.now residual.now
         direction.now a_direction.now z.now }
 {
-    if !matrix_test::given::pattern_room(n, row_offsets, cols, diagonal) {
+    if !system.pattern.has_room() {
         return false;
     }
     if !gradient_refusals::refuse::vectors_room(
-        n,
-        row_offsets,
-        blocks,
-        preconditioner,
+        &system.pattern,
+        system.blocks,
+        system.preconditioner,
         b,
         x,
         residual,
@@ -51,84 +46,37 @@ pub fn room(
     ) {
         return false;
     }
-    dense::plan_held(dense, n, perm, inv_perm, first, row_start, values)
-        & dense::scratch_room(dense, n, scratch)
+    let dense = system.dense();
+    dense::plan_held(dense, system.pattern.n, &system.plan, system.values)
+        & dense::scratch_room(dense, system.pattern.n, scratch)
 }
 
 // Pattern and plan, once every list has its room.
-pub fn structure(
-    dense: bool,
-    n: usize,
-    row_offsets: &[u32],
-    cols: &[u32],
-    diagonal: &[u32],
-    perm: &[u32],
-    inv_perm: &[u32],
-    first: &[u32],
-    row_start: &[u32],
-) -> u8
-    requires { Roomy dense n row_offsets.now cols.now diagonal.now perm.now inv_perm.now first.now row_start.now }
-    ensures { result ≡ verdict
-        (structural dense n row_offsets.now cols.now diagonal.now perm.now inv_perm.now
-        first.now row_start.now) }
+#[tactic(auto, unfolding(law::specs::Refusal::verdict, crate::specs::Dense::structural), using(matrix_shape::specs::Given::held, matrix_shape::specs::Given::pattern))]
+pub fn structure(dense: bool, pattern: &Pattern, plan: &Plan) -> Result<(), Refusal>
+    requires { IsRoomy dense (lists pattern.now) (plan_lists plan.now) }
+    ensures { result ≡ verdict (structural_of dense (lists pattern.now) (plan_lists plan.now)) }
 {
-    if !matrix_test::given::pattern_formed(n, row_offsets, cols, diagonal) {
-        return law::refusal::BAD_PATTERN;
-    }
-    if !dense::plan_fits(
-        dense,
-        n,
-        row_offsets,
-        cols,
-        diagonal,
-        perm,
-        inv_perm,
-        first,
-        row_start,
-    ) {
-        return law::refusal::BAD_PLAN;
-    }
-    if !dense::plan_short(dense, n, perm, inv_perm, first, row_start) {
-        return law::refusal::LONG_ENVELOPE;
-    }
-    0
+    ensure(
+        matrix_test::given::pattern_formed(pattern),
+        Refusal::BadPattern,
+    )?;
+    ensure(dense::plan_fits(dense, pattern, plan), Refusal::BadPlan)?;
+    ensure(
+        dense::plan_short(dense, pattern.n, plan),
+        Refusal::LongEnvelope,
+    )
 }
 
 // The last four tests of a step solve.
-pub fn later(
-    dense: bool,
-    n: usize,
-    row_offsets: &[u32],
-    cols: &[u32],
-    diagonal: &[u32],
-    perm: &[u32],
-    inv_perm: &[u32],
-    first: &[u32],
-    row_start: &[u32],
-    tolerance: f32,
-    max_iterations: usize,
-) -> u8
-    requires { Roomy dense n row_offsets.now cols.now diagonal.now perm.now inv_perm.now first.now row_start.now }
-    ensures { result ≡ verdict
-        (later dense n row_offsets.now cols.now diagonal.now perm.now inv_perm.now
-        first.now row_start.now tolerance max_iterations) }
+#[tactic(auto, unfolding(law::specs::Refusal::verdict, crate::specs::Dense::structural, crate::specs::Dense::later))]
+pub fn later(system: &System) -> Result<(), Refusal>
+    requires { IsRoomySystem (system_of system.now) }
+    ensures { result ≡ verdict (later_of (system_of system.now)) }
 {
-    let no = structure(
-        dense,
-        n,
-        row_offsets,
-        cols,
-        diagonal,
-        perm,
-        inv_perm,
-        first,
-        row_start,
-    );
-    if no != 0 {
-        return no;
-    }
-    if !gradient_refusals::given::settings_ok(tolerance, max_iterations) {
-        return law::refusal::BAD_SETTINGS;
-    }
-    0
+    structure(system.dense(), &system.pattern, &system.plan)?;
+    ensure(
+        gradient_refusals::given::settings_ok(system.settings),
+        Refusal::BadSettings,
+    )
 }

@@ -11,15 +11,14 @@ pub mod refuse;
 // Which route a step solve took, and how the iteration ended.
 #[derive(Clone, Copy)]
 pub enum Stepped {
-    Refused(u8),
     Direct,
     Iterated(Outcome),
 }
 
 // What the factorization of a step came to. The mark is set for `Direct` only; a failure has its row and pivot.
+// Three ends of one call, each with a number over C: a Result of the factor would leave the third beside it.
 #[derive(Clone, Copy)]
 pub enum Marked {
-    Refused(u8),
     Direct,
     Failed { row: usize, pivot: f32 },
     Iterative,

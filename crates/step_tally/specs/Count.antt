@@ -1,14 +1,27 @@
 -- THE TALLY after one more call.
-use Rattle.std.specs.Prelude.{ℕ, ◌+◌, Bool, cond, ltb, eqb}
+use Rattle.std.specs.Prelude.{ℕ, ◌+◌, Bool, cond, ltb, eqb, Option, None, Some, List, [], ◌∷◌, get_or}
 use Rattle.law.specs.Limit.{tally}
 use Rattle.step_tally.specs.declared.Tally.{Tally}
 use Rattle.step_tally.specs.declared.Kind.{Kind}
 use Rattle.step_tally.specs.declared.Kind.TheVariants.{Direct, Zero, Near, Converged, Curvature, Limit, Refused}
-use Rattle.step_tally.specs.declared.Asked.{Asked}
-use Rattle.step_tally.specs.declared.Asked.TheVariants.{Nothing, One}
 
 abbrev pub total_of : Tally → ℕ
 total_of t = t.direct + t.zero + t.near + t.converged + t.curvature + t.limit + t.refused
+
+-- seven counts as a list has them, in the order of the kinds; and back
+abbrev pub tally_of : List ℕ → Tally
+tally_of c = record {
+  direct = get_or c 0 0;
+  zero = get_or c 1 0;
+  near = get_or c 2 0;
+  converged = get_or c 3 0;
+  curvature = get_or c 4 0;
+  limit = get_or c 5 0;
+  refused = get_or c 6 0;
+}
+
+abbrev pub counts_of : Tally → List ℕ
+counts_of t = t.direct ∷ t.zero ∷ t.near ∷ t.converged ∷ t.curvature ∷ t.limit ∷ t.refused ∷ []
 
 -- the kinds' order by the rules, module 7
 abbrev pub number : Kind → ℕ
@@ -45,9 +58,13 @@ added_to c t k = cond (ltb (total_of t) c) (one_more t k) t
 abbrev pub added_of : Tally → Kind → Tally
 added_of t k = added_to tally t k
 
+-- how the step solve ended that a call asked for: a response with no entries left asks for none
+abbrev pub Asked : Type 0
+Asked = Option Kind
+
 abbrev pub counted_to : ℕ → Tally → Asked → Tally
-counted_to c t Nothing = t
-counted_to c t (One k) = added_to c t k
+counted_to c t None = t
+counted_to c t (Some k) = added_to c t k
 
 abbrev pub counted_of : Tally → Asked → Tally
 counted_of t a = counted_to tally t a

@@ -1,14 +1,12 @@
 -- THE TALLY AFTER ANY CALLS: from a fresh record its sum is the lesser of the cap and their number,
 -- and each count is the number of its kind among the first so many. Said of any cap.
-use Rattle.std.specs.Prelude.{◌≡◌, refl, Bool, true, false, cond, List, [], ◌∷◌, ℕ, suc, zero, ◌+◌, min, ◌≤◌, length, take}
+use Rattle.std.specs.Prelude.{◌≡◌, refl, Bool, true, false, cond, List, [], ◌∷◌, ℕ, suc, zero, ◌+◌, min, ◌≤◌, length, take, None, Some}
 use Rattle.std.proofs.Common.{◌∙◌, ap, arith, length-take, lt-ltb, le-ltb}
 use Rattle.law.specs.Limit.{tally}
 use Rattle.step_tally.specs.declared.Tally.{Tally}
 use Rattle.step_tally.specs.declared.Kind.{Kind}
 use Rattle.step_tally.specs.declared.Kind.TheVariants.{Direct, Zero, Near, Converged, Curvature, Limit, Refused}
-use Rattle.step_tally.specs.declared.Asked.{Asked}
-use Rattle.step_tally.specs.declared.Asked.TheVariants.{Nothing, One}
-use Rattle.step_tally.specs.Count.{total_of, same, grown, one_more, counted_to}
+use Rattle.step_tally.specs.Count.{Asked, total_of, same, grown, one_more, counted_to}
 
 abbrev pub fresh : Tally
 fresh = record { direct = 0; zero = 0; near = 0; converged = 0; curvature = 0; limit = 0; refused = 0 }
@@ -31,8 +29,8 @@ after c t (a ∷ l) = after c (counted_to c t a) l
 -- the step solves that were asked for
 pub solves : List Asked → List Kind
 solves [] = []
-solves (Nothing ∷ l) = solves l
-solves (One k ∷ l) = k ∷ solves l
+solves (None ∷ l) = solves l
+solves (Some k ∷ l) = k ∷ solves l
 
 -- how many of them are of a kind
 pub of_kind : Kind → List Kind → ℕ
@@ -81,10 +79,10 @@ cut : (c r : ℕ) (t : Tally) (l : List Asked) → total_of t + r ≡ c → afte
 unfolding all after solves
 cut c zero t [] e = refl
 cut c (suc r) t [] e = refl
-cut c zero t (Nothing ∷ l) e = cut c zero t l e
-cut c (suc r) t (Nothing ∷ l) e = cut c (suc r) t l e
-cut c zero t (One k ∷ l) e = ap (λ (b : Bool). after c (cond b (one_more t k) t) l) (le-ltb (total_of t) c (omega arith)) ∙ cut c zero t l e
-cut c (suc r) t (One k ∷ l) e =
+cut c zero t (None ∷ l) e = cut c zero t l e
+cut c (suc r) t (None ∷ l) e = cut c (suc r) t l e
+cut c zero t (Some k ∷ l) e = ap (λ (b : Bool). after c (cond b (one_more t k) t) l) (le-ltb (total_of t) c (omega arith)) ∙ cut c zero t l e
+cut c (suc r) t (Some k ∷ l) e =
     ap (λ (b : Bool). after c (cond b (one_more t k) t) l) (lt-ltb (total_of t) c (omega arith)) ∙ cut c r (one_more t k) l (omega (arith, total_more t k))
 
 zero_from : (j : Kind) → count_of fresh j ≡ 0
@@ -108,8 +106,8 @@ count_to c l j = omega (arith, ap (λ (t : Tally). count_of t j) (cut c c fresh 
 pub full_stays : (c : ℕ) (t : Tally) (l : List Asked) → c ≤ total_of t → after c t l ≡ t
 unfolding after
 full_stays c t [] h = refl
-full_stays c t (Nothing ∷ l) h = full_stays c t l h
-full_stays c t (One k ∷ l) h = ap (λ (b : Bool). after c (cond b (one_more t k) t) l) (le-ltb (total_of t) c h) ∙ full_stays c t l h
+full_stays c t (None ∷ l) h = full_stays c t l h
+full_stays c t (Some k ∷ l) h = ap (λ (b : Bool). after c (cond b (one_more t k) t) l) (le-ltb (total_of t) c h) ∙ full_stays c t l h
 
 -- both at the cap of RULES.md § 2
 pub sum_is : (l : List Asked) → total_of (after tally fresh l) ≡ min tally (length (solves l))

@@ -5,7 +5,7 @@ ghost use Rattle.step_tally.specs.Count.{total_of, one_more};
 
 use crate::{Kind, Tally};
 
-// Below the cap no count can overflow.
+// Below the cap no count can overflow. A field by its kind is a match: counts in an array, by the kind as a number, would lose the fields' names.
 pub fn one_more(mut t: Tally, k: Kind) -> Tally
     requires { total_of t < tally }
     ensures { result ≡ one_more t k }

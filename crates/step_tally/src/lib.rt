@@ -3,12 +3,12 @@
 #![tactic(auto)]
 
 ghost use Rattle.std.specs.Prelude.{◌≡◌};
-ghost use Rattle.step_tally.specs.Count.{total_of, added_of, counted_of};
+ghost use Rattle.step_tally.specs.Count.{total_of, added_of, counted_of, tally_of, counts_of};
 ghost use Rattle.step_tally.specs.Runs as runs;
 
 mod inner;
 
-#[derive(Clone, Copy)]
+#[derive(Clone, Copy, Default)]
 pub struct Tally {
     pub direct: u32,
     pub zero: u32,
@@ -31,38 +31,57 @@ pub enum Kind {
     Refused,
 }
 
-// What a call asked for: a response with no entries left asks for no step solve.
-#[derive(Clone, Copy)]
-pub enum Asked {
-    Nothing,
-    One(Kind),
+// The seven counts as a list has them, in the order of the kinds; and back.
+impl From<[u32; 7]> for Tally {
+    ghost from_gives = { λ counts t. t ≡ tally_of counts };
+
+    fn from(counts: [u32; 7]) -> Tally {
+        let [direct, zero, near, converged, curvature, limit, refused] = counts;
+        Tally {
+            direct,
+            zero,
+            near,
+            converged,
+            curvature,
+            limit,
+            refused,
+        }
+    }
+}
+
+impl From<Tally> for [u32; 7] {
+    ghost from_gives = { λ t counts. counts ≡ counts_of t };
+
+    fn from(t: Tally) -> [u32; 7] {
+        [
+            t.direct,
+            t.zero,
+            t.near,
+            t.converged,
+            t.curvature,
+            t.limit,
+            t.refused,
+        ]
+    }
 }
 
 pub fn fresh() -> Tally
     ensures { result ≡ runs.fresh }
 {
-    Tally {
-        direct: 0,
-        zero: 0,
-        near: 0,
-        converged: 0,
-        curvature: 0,
-        limit: 0,
-        refused: 0,
-    }
+    Tally::default()
 }
 
 // The sum of any seven counts fits 64 bits.
 pub fn total(t: Tally) -> u64
     ensures { result ≡ total_of t }
 {
-    t.direct as u64
-        + t.zero as u64
-        + t.near as u64
-        + t.converged as u64
-        + t.curvature as u64
-        + t.limit as u64
-        + t.refused as u64
+    u64::from(t.direct)
+        + u64::from(t.zero)
+        + u64::from(t.near)
+        + u64::from(t.converged)
+        + u64::from(t.curvature)
+        + u64::from(t.limit)
+        + u64::from(t.refused)
 }
 
 // One more of the kind, until the sum has reached the cap; then the record stays.
@@ -76,18 +95,20 @@ pub fn added(t: Tally, k: Kind) -> Tally
     }
 }
 
-pub fn counted(t: Tally, a: Asked) -> Tally
-    ensures { result ≡ counted_of t a }
+// `asked` is how the step solve ended that a call asked for: a response with no entries left asks for none.
+// A match: `map_or` was tried, and its clause leaves the two cases to a proof.
+pub fn counted(t: Tally, asked: Option<Kind>) -> Tally
+    ensures { result ≡ counted_of t asked }
 {
-    match a {
-        Asked::Nothing => t,
-        Asked::One(k) => added(t, k),
+    match asked {
+        None => t,
+        Some(kind) => added(t, kind),
     }
 }
 
 // The lent record, updated in place.
-pub fn count(t: &mut Tally, a: Asked)
-    ensures { t.new ≡ counted_of t.old a }
+pub fn count(t: &mut Tally, asked: Option<Kind>)
+    ensures { t.new ≡ counted_of t.old asked }
 {
-    *t = counted(*t, a);
+    *t = counted(*t, asked);
 }

@@ -1,1 +1,2 @@
 mod Readings
+pub mod Parts

@@ -20,6 +20,11 @@ dot_all n u v = over (dot_step u v) 0 n zero32
 abbrev pub lack_at : List Float → List Float → ℕ → Vector
 lack_at b r k = sub_of (vector_at b k) (vector_at r k)
 
+-- ---- what a loop leaves that hands every part to a function: where each answer can only be f's part, x is l with the first n parts f's
+
+abbrev pub Each : (ℕ → Vector → Vector → Type 0) → ℕ → List Float → List Float → Type 0
+Each Answers n l x = (f : ℕ → Vector) → ((j : ℕ) → length (f j) ≡ 2) → ((k : ℕ) (v : Vector) → k < n → Answers k (vector_at l k) v → v ≡ f k) → x ≡ mix 2 n f l
+
 -- ---- A LOOP THAT WRITES x PART BY PART, from l on: before turn k the first k parts are written and the rest is as it was. One law serves every such loop
 
 abbrev pub Front : (ℕ → Vector) → ℕ → ℕ → List Float → List Float → Type 0

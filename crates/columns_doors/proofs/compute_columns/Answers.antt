@@ -1,5 +1,5 @@
--- What the call beneath promises of its record is what the lent one then holds.
+-- What the call beneath promises is what this one does; an edit turns this line.
 use Rattle.columns_doors.proofs.compute_columns.Goals as goal
 
 pub returns : goal.returns
-returns c = c.compute_columns-r.ensures
+returns c = c.compute_columns.ensures

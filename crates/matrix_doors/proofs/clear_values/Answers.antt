@@ -1,17 +1,9 @@
-use mathlib.Core.Path.{sym, ap, ◌∙◌}
-use Rattle.law.proofs.Promise.{refuses, accepts}
-use Rattle.matrix_doors.specs.Clearing as clearing
-use Rattle.matrix_doors.specs.declared.Ran.TheVariants.{Done}
+use Rattle.std.proofs.Common.{arith}
+use Rattle.matrix_doors.specs.Clearing.{ready}
 use Rattle.matrix_doors.proofs.clear_values.Goals as goal
 
-pub returns-then-no-ne0 : goal.returns-then-no-ne0
-returns-then-no-ne0 c = refuses clearing.door _ _ c.clearing-no.ensures c.if-no-ne0.true
+pub slots-requires : goal.slots-requires
+slots-requires c = (ready _ c.in_ok-clearing.ensures).pattern.held.places
 
-pub clear_all-requires : goal.clear_all-requires
-clear_all-requires c =
-    let r = clearing.ready _ (sym c.clearing-no.ensures ∙ c.if-no-ne0.false) in
-    r
-
-pub returns : goal.returns
-returns c =
-    accepts clearing.door _ _ c.clearing-no.ensures c.if-no-ne0.false _ (ap (clearing.left Done) c.clear_all.ensures)
+pub clear_values-requires : goal.clear_values-requires
+clear_values-requires c = omega (arith, (ready _ c.in_ok-clearing.ensures).blocks, c.slots.ensures.same)

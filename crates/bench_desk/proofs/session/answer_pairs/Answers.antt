@@ -1,31 +1,41 @@
+use Rattle.std.specs.Prelude.{◌≡◌, Err}
 use mathlib.Core.Path.{sym}
 use native.Mathlib.Omega.{arith}
+use borrow.Author.Rules.{rules}
+use borrow.Author.Tests.{leb-true, leb-false}
 use lib.Seq.{length-take-le}
-use Rattle.bench_answer.proofs.Answering.{lines_fit, gave_three, gave_refusal, gave_lines}
+use Rattle.bench_plan.proofs.Fronts.{passed, failed}
+use Rattle.bench_answer.proofs.Answering.{lines_fit, gave_three, gave_refusal, gave_lines, drafted}
 use Rattle.bench_desk.proofs.session.answer_pairs.Goals as goal
 
-pub returns-then-out-n : goal.returns-then-out-n
-returns-then-out-n c = gave_three _ _ _ _ c.requires.0 c.if-out-n.true
+pub returns-in_err-ensure : goal.returns-in_err-ensure
+returns-in_err-ensure c =
+    let e : c.from_residual.result ≡ Err c.in_err-ensure.field-0.0 = search rules in
+    let f = failed _ _ _ c.in_err-ensure.ensures in
+    rw (e, sym f.0) (gave_three _ _ _ _ c.requires.0 (leb-false _ _ f.1))
+
+pub returns-in_err-draft : goal.returns-in_err-draft
+returns-in_err-draft c =
+    let e : c.from_residual-in_err-draft.result ≡ Err c.in_err-draft.field-0.0 = search rules in
+    rw e (gave_refusal _ _ _ _ (leb-true _ _ (passed _ _ c.in_ok-ensure.ensures)) _ _ _ _ _ c.in_err-draft.ensures)
 
 pub slice_bounds-write_plan-end : goal.slice_bounds-write_plan-end
 slice_bounds-write_plan-end c =
     let p = c.requires in
-    omega (arith, p.0.few, p.1.0.order_room, c.from_pairs-came.auto.order)
+    omega (arith, drafted _ _ _ _ _ _ _ _ c.in_ok-draft.ensures, p.0.few, p.1.0.order_room, c.from_pairs.auto.order)
 
-pub slice_bounds-write_plan-end-in-Done : goal.slice_bounds-write_plan-end-in-Done
-slice_bounds-write_plan-end-in-Done c =
+pub slice_bounds-write_plan-end-2 : goal.slice_bounds-write_plan-end-2
+slice_bounds-write_plan-end-2 c =
     let p = c.requires in
-    sym (length-take-le _ _ (omega (arith, p.0.few, p.1.0.order_room, c.from_pairs-came.auto.order)))
+    sym (length-take-le _ _ (omega (arith, drafted _ _ _ _ _ _ _ _ c.in_ok-draft.ensures, p.0.few, p.1.0.order_room, c.from_pairs.auto.order)))
 
-pub write_plan-k-requires : goal.write_plan-k-requires
-write_plan-k-requires c =
+pub write_plan-requires : goal.write_plan-requires
+write_plan-requires c =
     let p = c.requires in
-    lines_fit _ _ _ (omega (arith, p.0.few, p.1.0.order_room, c.from_pairs-came.auto.order)) c.if-out-n.false
+    let same = drafted _ _ _ _ _ _ _ _ c.in_ok-draft.ensures in
+    lines_fit _ _ _ (omega (arith, same, p.0.few, p.1.0.order_room, c.from_pairs.auto.order))
+    (omega (arith, same, leb-true _ _ (passed _ _ c.in_ok-ensure.ensures)))
 
-pub returns-in-Refused : goal.returns-in-Refused
-returns-in-Refused c =
-    gave_refusal _ _ _ _ c.if-out-n.false c.from_pairs-came.result _ _ _ _ c.from_pairs-came.ensures _ c.in-Refused.is
-
-pub returns-in-Done : goal.returns-in-Done
-returns-in-Done c =
-    gave_lines _ _ _ _ c.if-out-n.false c.from_pairs-came.result _ _ _ _ c.from_pairs-came.ensures _ _ c.in-Done.is _ _ c.write_plan-k.ensures
+pub returns : goal.returns
+returns c =
+    gave_lines _ _ _ _ (leb-true _ _ (passed _ _ c.in_ok-ensure.ensures)) _ _ _ _ _ c.in_ok-draft.ensures _ _ c.write_plan.ensures

@@ -7,8 +7,8 @@ use Rattle.bench_print.proofs.inner.write_refused.Goals as goal
 
 pub put_line-requires : goal.put_line-requires
 unfolding refused_text bytes
-put_line-requires c = omega (arith, refused_short c.args.number _ (omega arith) c.requires)
+put_line-requires c = rw c.from.ensures (omega (arith, refused_short c.args.number _ (omega arith) c.requires))
 
 pub returns : goal.returns
 unfolding refused_text bytes
-returns c = written_of _ _ _ _ (refused_short c.args.number _ (omega arith) c.requires) c.put_line.ensures
+returns c = written_of _ _ _ _ (refused_short c.args.number _ (omega arith) c.requires) (rw c.from.ensures at c.put_line.ensures)

@@ -1,31 +1,29 @@
-use mathlib.Core.Path.{refl, ◌∙◌}
-use native.Mathlib.Omega.{arith}
-use borrow.Author.Rules.{rules}
+use Rattle.std.proofs.Common.{refl, sym, ◌∙◌, arith, Some}
 use Rattle.law.proofs.Loop.{over_none, over_turn, over_done}
 use Rattle.bench_scan.specs.Scan.{state_to}
-use Rattle.bench_scan.proofs.Turn.{count_after, room_long, scan_end}
+use Rattle.bench_scan.proofs.Turn.{count_after, room_long, scan_bad, scan_end}
 use Rattle.bench_scan.proofs.inner.scanned.Goals as goal
 
-pub loop-i-init : goal.loop-i-init
-loop-i-init c = (search rules, search rules, refl, over_none _ _ _)
+pub loop-b-init : goal.loop-b-init
+loop-b-init c = (omega arith, refl, over_none _ _ _)
 
-pub step-next-requires : goal.step-next-requires
-step-next-requires c =
-    omega (arith, c.loop-i.invariant.1)
+pub returns-in_err-s : goal.returns-in_err-s
+returns-in_err-s c =
+    rw c.from_residual.ensures (scan_bad _ _ _ c.loop-b.b-index _ _ _ _ c.loop-b-test.true refl c.loop-b.invariant.2
+    (sym c.in_err-s.was ∙ c.step.ensures) c.store.ensures)
 
-pub loop-i-preserved : goal.loop-i-preserved
+pub loop-b-preserved : goal.loop-b-preserved
 unfolding state_to
-loop-i-preserved c =
-    let s = c.loop-i.s in (
-      search rules,
-      count_after _ _ _ _ c.step-next.ensures c.loop-i.invariant.1,
-      rw c.store.ensures (room_long _ _ s _ ∙ c.loop-i.invariant.2),
-      over_turn _ _ c.loop-i.i _ (s, c.loop-i.room) _ (search rules) c.loop-i.invariant.3 (rw (c.step-next.ensures, c.store.ensures)),
+loop-b-preserved c =
+    let e = sym c.in_ok-s.was ∙ c.step.ensures in (
+      count_after _ _ _ _ e c.loop-b.invariant.0,
+      rw c.store.ensures (room_long _ _ (Some c.loop-b.s) _ ∙ c.loop-b.invariant.1),
+      over_turn _ _ c.loop-b.b-index _ (Some c.loop-b.s, c.loop-b.room) _ (omega arith) c.loop-b.invariant.2 (rw (e, c.store.ensures)),
     )
 
 pub returns : goal.returns
 returns c =
-    scan_end _ _ _ c.loop-i.s _ c.loop-i.room _
-    (over_done _ _ c.loop-i.i _ _ (c.loop-i.s, c.loop-i.room) c.loop-i.invariant.3 c.loop-i.invariant.0 (omega arith))
-    c.step.ensures
+    scan_end _ _ _ _ _ c.loop-b.room _
+    (over_done _ _ c.loop-b.b-index _ _ (_, c.loop-b.room) c.loop-b.invariant.2 (omega arith) (omega arith))
+    c.step-2.ensures
     c.store-2.ensures

@@ -6,12 +6,8 @@ use Rattle.bench_serve.proofs.inner.reply.Goals as goal
 pub slice_bounds-answer-end : goal.slice_bounds-answer-end
 slice_bounds-answer-end c = sym (length-take-le _ _ c.requires.0.within)
 
-pub returns-in-Refused : goal.returns-in-Refused
-returns-in-Refused c =
-    let p = c.requires in
-    line_written _ _ _ _ c.answer.result p.0 p.1 c.answer.ensures _ c.in-Refused.is _ _ c.write_refused.ensures
+pub returns-in-Ok : goal.returns-in-Ok
+returns-in-Ok c = lines_written _ _ _ _ c.requires.0 c.requires.1 _ c.in-Ok.ensures
 
-pub returns-in-Done : goal.returns-in-Done
-returns-in-Done c =
-    let p = c.requires in
-    lines_written _ _ _ _ c.answer.result p.0 p.1 c.answer.ensures _ c.in-Done.is
+pub returns-in-Err : goal.returns-in-Err
+returns-in-Err c = line_written _ _ _ _ c.requires.0 c.requires.1 _ c.in-Err.ensures _ _ (rw c.from.ensures at c.write_refused.ensures)

@@ -5,14 +5,13 @@ use Rattle.bench_text.proofs.head.head_of.Goals as goal
 pub returns-then-text-gt-BYTES : goal.returns-then-text-gt-BYTES
 returns-then-text-gt-BYTES c = head_long _ c.if-text-gt-BYTES.true
 
-pub returns-in-Bad : goal.returns-in-Bad
-returns-in-Bad c =
-    rw c.in-Bad.is at (head_said _ _ _ c.scanned-s.ensures c.if-text-gt-BYTES.false)
+pub returns-in_err-k : goal.returns-in_err-k
+returns-in_err-k c =
+    c.from_residual.ensures ∙ rw c.in_err-k.was at (head_said _ _ _ c.scanned.ensures c.if-text-gt-BYTES.false)
 
 pub returns-in-Word : goal.returns-in-Word
-returns-in-Word c =
-    rw c.in-Word.is at (head_said _ _ _ c.scanned-s.ensures c.if-text-gt-BYTES.false)
+returns-in-Word c = rw c.in-Word.is at (rw c.in_ok-k.was at (head_said _ _ _ c.scanned.ensures c.if-text-gt-BYTES.false))
 
 pub returns-in-Gap : goal.returns-in-Gap
 returns-in-Gap c =
-    c.counts.ensures ∙ rw c.in-Gap.is at (head_said _ _ _ c.scanned-s.ensures c.if-text-gt-BYTES.false)
+    c.counts.ensures ∙ rw c.in-Gap.is at (rw c.in_ok-k.was at (head_said _ _ _ c.scanned.ensures c.if-text-gt-BYTES.false))

@@ -1,23 +1,10 @@
-use mathlib.Core.Path.{refl}
-use native.Mathlib.Omega.{arith}
+use Rattle.std.proofs.Common.{refl, sym, ◌∙◌}
 use Rattle.columns_axes.proofs.Laws.{still_ready}
 use Rattle.columns_make.proofs.Laws.{work_is}
 use Rattle.columns_make.proofs.front.compute.Goals as goal
 
-pub clear-requires : goal.clear-requires
-clear-requires c = omega (
-  arith,
-  c.requires.solvable.iterable.b,
-)
-
-pub overflow_mul-n : goal.overflow_mul-n
-overflow_mul-n c = omega (
-  arith,
-  c.requires.solvable.iterable.few,
-)
-
 pub sweep-requires : goal.sweep-requires
-sweep-requires c = λ d. (c.requires.solvable.planned d).scratch
+sweep-requires c = λ d. (c.requires.solvable.planned (sym c.dense.ensures ∙ d)).scratch
 
 pub clear4-requires : goal.clear4-requires
 clear4-requires c =
@@ -31,5 +18,5 @@ all-done-requires c =
 
 pub returns : goal.returns
 returns c =
-    work_is _ c.requires _ _ _ _ _ _ _ _ _ _ _ _ _ _ _ _ _ c.clear.ensures c.sweep.ensures c.clear4.ensures c.fresh.ensures
-    c.all-done.ensures c.ended_of.ensures
+    work_is _ c.requires _ _ _ _ _ _ _ _ _ _ _ _ _ _ _ _ _ c.clear.ensures (rw c.dense.ensures at c.sweep.ensures) c.clear4.ensures c.fresh.ensures
+    c.all-done.ensures c.from.ensures

@@ -1,11 +1,6 @@
-use mathlib.Core.Path.{◌≡◌}
-use Prim.Native.Nat.{◌-◌, ◌≤◌}
-use lib.ListN.{length}
+use Rattle.std.proofs.Common.{◌≡◌, ◌*◌, length}
 use Rattle.columns_table.specs.Pass.{Met}
 use Rattle.columns_table.proofs.table.walk.Given as goal
 
-abbrev pub invariant-loop-p : goal.invariant-loop-p
-invariant-loop-p l = (l.p ≤ l.n) × (length l.seen ≡ length l.initial.seen) × Met l.pinned l.loaded l.column_of l.p l.seen
-
-abbrev pub decreases-loop-p : goal.decreases-loop-p
-decreases-loop-p l = l.n - l.p
+abbrev pub invariant-loop-k : goal.invariant-loop-k
+invariant-loop-k l = (length l.seen ≡ length l.initial.seen) × Met l.table.pinned.now l.table.loaded l.table.column_of.now (8 * l.k) l.seen

@@ -1,17 +1,15 @@
-use mathlib.Core.Path.{refl}
-use native.Mathlib.Nat.{le_refl}
-use Rattle.law.proofs.Loop.{over_none, over_turn, over_done}
-use Rattle.factor_row.specs.Row.{square_step, pivot_of}
-use borrow.Author.Rules.{rules}
+use Rattle.std.proofs.Common.{◌≡◌, ◌+◌, ◌-◌, ◌<◌, arith}
+use Rattle.std.specs.Float.{nan}
+use Rattle.law.specs.Store.{part_at, length_part}
+use Rattle.law.proofs.Loop.{over_turn}
+use Rattle.factor_row.specs.Row.{square_step}
 use Rattle.factor_row.proofs.row.pivot.Goals as goal
 
-pub loop-k-init : goal.loop-k-init
-loop-k-init c = (le_refl _, search rules, over_none _ _ _)
-
-pub loop-k-preserved : goal.loop-k-preserved
+pub loop-e-preserved : goal.loop-e-preserved
 unfolding square_step
-loop-k-preserved c = (search rules, search rules, over_turn _ _ _ _ _ _ c.loop-k.invariant.0 c.loop-k.invariant.2 refl)
-
-pub returns : goal.returns
-unfolding pivot_of
-returns c = over_done _ _ _ _ _ _ c.loop-k.invariant.2 c.loop-k.invariant.1 c.loop-k-test.false
+loop-e-preserved c =
+    let k = c.loop-e.e-index in
+    let less : k < c.args.b - c.args.a =
+    omega (arith, c.loop-e-test.true, length_part c.args.a c.args.b c.args.values.now (omega arith) (omega arith)) in
+    let next : c.args.a + (k + 1) ≡ c.args.a + k + 1 = omega arith in
+    rw next (over_turn _ _ _ _ _ _ (omega arith) c.loop-e.invariant (rw (part_at c.args.a c.args.b c.args.values.now k nan less)))

@@ -14,9 +14,9 @@ returns-then-alpha c =
     let p = c.requires.n_in_bounds in
     scaled_is _ _ _ p.1 _ c.scale_all.ensures
     ∙ rescale_some _ _ _ _ _ _ (product_is _ _ _ p.2 _ _ _ _ c.mul.ensures) c.dot_all-denominator.ensures _ _ c.if-denominator.false
-    c.dot_all-numerator.ensures c.clamp-alpha.ensures c.if-alpha.true
+    c.dot_all-numerator.ensures c.clamp-alpha.ensures.value c.if-alpha.true
 
 pub returns-else-alpha : goal.returns-else-alpha
 returns-else-alpha c =
     rescale_all _ _ _ _ _ _ (product_is _ _ _ c.requires.n_in_bounds.2 _ _ _ _ c.mul.ensures) c.dot_all-denominator.ensures _ _ c.if-denominator.false
-    c.dot_all-numerator.ensures c.clamp-alpha.ensures c.if-alpha.false
+    c.dot_all-numerator.ensures c.clamp-alpha.ensures.value c.if-alpha.false

@@ -8,4 +8,4 @@ use Rattle.gradient_refusals.proofs.given.settings_ok.Goals as goal
 
 pub returns : goal.returns
 unfolding settings_ok div of_bits
-returns c = ap (λ (t : Bool). t && leb c.args.max_iterations iterations) (between c.args.tolerance)
+returns c = ap (λ (t : Bool). t && leb c.args.settings.max_iterations iterations) (between c.args.settings.tolerance)

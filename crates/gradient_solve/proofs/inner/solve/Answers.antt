@@ -2,9 +2,6 @@ use mathlib.Core.Path.{◌∙◌}
 use Rattle.gradient_definition.specs.Vectors.{zeros_are}
 use Rattle.gradient_solve.proofs.inner.solve.Goals as goal
 
-pub attempt-o-requires : goal.attempt-o-requires
-attempt-o-requires c = record { matrix = c.requires.matrix; sized = c.requires.sized; n_in_bounds = c.requires.n_in_bounds }
-
 pub returns : goal.returns
 returns c =
     let p = c.requires.sized in

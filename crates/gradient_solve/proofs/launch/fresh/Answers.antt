@@ -1,11 +1,7 @@
 use mathlib.Core.Path.{◌∙◌}
-use native.Mathlib.Omega.{arith}
 use Rattle.gradient_definition.specs.Vectors.{product_is, lacking_is}
 use Rattle.gradient_solve.proofs.LaunchLaws.{fresh_is}
 use Rattle.gradient_solve.proofs.launch.fresh.Goals as goal
-
-pub mul-requires : goal.mul-requires
-mul-requires c = record { rows = c.requires.matrix.rows; n_in_bounds = omega (arith, c.requires.matrix.values) }
 
 pub returns : goal.returns
 returns c =

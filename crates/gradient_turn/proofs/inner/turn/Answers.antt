@@ -1,10 +1,6 @@
-use native.Mathlib.Omega.{arith}
 use Rattle.gradient_definition.specs.Vectors.{product_is, preconditioned_is, advanced_is, retreated_is, redirected_is}
 use Rattle.gradient_turn.proofs.Laws.{turn_bent, turn_done, turn_onward}
 use Rattle.gradient_turn.proofs.inner.turn.Goals as goal
-
-pub mul-requires : goal.mul-requires
-mul-requires c = record { rows = c.requires.matrix.rows; n_in_bounds = omega (arith, c.requires.matrix.values) }
 
 pub returns-then-norm-threshold : goal.returns-then-norm-threshold
 returns-then-norm-threshold c =

@@ -10,14 +10,14 @@ use Rattle.matrix_build.proofs.filling.fill_row.Goals as goal
 pub sweep-low-requires : goal.sweep-low-requires
 sweep-low-requires c =
     let f = c.requires.filling in
-    let long = row_length c.args.count c.args.pairs.now c.args.r c.args.n f.row in
+    let long = row_length c.args.pairs.now.count c.args.pairs.now.list.now c.args.r c.args.pairs.now.n f.row in
     (record { given = c.requires.given; from_le_to = (omega arith, omega (arith, f.row), f.links_long); chain = rw c.wide-list.ensures.same f.chain; to_in_bounds = omega (arith, f.cols_long) })
 
 pub overflow_cast-diagonal : goal.overflow_cast-diagonal
 overflow_cast-diagonal c =
     let s = c.sweep-low in
     let f = c.requires.filling in
-    let long = row_length c.args.count c.args.pairs.now c.args.r c.args.n f.row in
+    let long = row_length c.args.pairs.now.count c.args.pairs.now.list.now c.args.r c.args.pairs.now.n f.row in
     let kept : length s.new.cols ≡ length c.args.cols.now = written_long _ _ _ _ s.ensures.stored in
     omega (arith, s.ensures.behind, f.slots_small)
 
@@ -25,7 +25,7 @@ pub offset_bounds-cols-own : goal.offset_bounds-cols-own
 offset_bounds-cols-own c =
     let s = c.sweep-low in
     let f = c.requires.filling in
-    let long = row_length c.args.count c.args.pairs.now c.args.r c.args.n f.row in
+    let long = row_length c.args.pairs.now.count c.args.pairs.now.list.now c.args.r c.args.pairs.now.n f.row in
     let kept : length s.new.cols ≡ length c.args.cols.now = written_long _ _ _ _ s.ensures.stored in
     omega (arith, s.ensures.behind, f.slots_small)
 
@@ -33,7 +33,7 @@ pub bounds-cols-own : goal.bounds-cols-own
 bounds-cols-own c =
     let s = c.sweep-low in
     let f = c.requires.filling in
-    let long = row_length c.args.count c.args.pairs.now c.args.r c.args.n f.row in
+    let long = row_length c.args.pairs.now.count c.args.pairs.now.list.now c.args.r c.args.pairs.now.n f.row in
     let kept : length s.new.cols ≡ length c.args.cols.now = written_long _ _ _ _ s.ensures.stored in
     omega (arith, s.ensures.behind, f.cols_long)
 
@@ -41,7 +41,7 @@ pub overflow_add-own : goal.overflow_add-own
 overflow_add-own c =
     let s = c.sweep-low in
     let f = c.requires.filling in
-    let long = row_length c.args.count c.args.pairs.now c.args.r c.args.n f.row in
+    let long = row_length c.args.pairs.now.count c.args.pairs.now.list.now c.args.r c.args.pairs.now.n f.row in
     let kept : length s.new.cols ≡ length c.args.cols.now = written_long _ _ _ _ s.ensures.stored in
     omega (arith, s.ensures.behind, f.slots_small)
 
@@ -49,7 +49,7 @@ pub sweep-high-requires : goal.sweep-high-requires
 sweep-high-requires c =
     let s = c.sweep-low in
     let f = c.requires.filling in
-    let long = row_length c.args.count c.args.pairs.now c.args.r c.args.n f.row in
+    let long = row_length c.args.pairs.now.count c.args.pairs.now.list.now c.args.r c.args.pairs.now.n f.row in
     let kept : length s.new.cols ≡ length c.args.cols.now = written_long _ _ _ _ s.ensures.stored in
     let l = f.row in (record {
       given = c.requires.given;
@@ -63,14 +63,14 @@ pub returns : goal.returns
 returns c =
     let s = c.sweep-low in
     let f = c.requires.filling in
-    let long = row_length c.args.count c.args.pairs.now c.args.r c.args.n f.row in
+    let long = row_length c.args.pairs.now.count c.args.pairs.now.list.now c.args.r c.args.pairs.now.n f.row in
     let kept : length s.new.cols ≡ length c.args.cols.now = written_long _ _ _ _ s.ensures.stored in
     let t = c.sweep-high in
     record {
       behind = omega (arith, s.ensures.behind, t.ensures.behind);
       begins = refl;
-      stored = t.ensures.stored ∙ rw (s.ensures.stored, s.ensures.behind) (row_stored c.args.count c.args.pairs.now c.args.r
-          c.args.n f.row c.args.cols.now c.args.at);
+      stored = t.ensures.stored ∙ rw (s.ensures.stored, s.ensures.behind) (row_stored c.args.pairs.now.count c.args.pairs.now.list.now c.args.r
+          c.args.pairs.now.n f.row c.args.cols.now c.args.at);
       marked = ap (λ (k : ℕ). set c.args.diagonal.now c.args.r k) (s.ensures.behind ∙ ap (λ (k : ℕ). c.args.at + k)
-          (row_rank c.args.count c.args.pairs.now c.args.r));
+          (row_rank c.args.pairs.now.count c.args.pairs.now.list.now c.args.r));
     }

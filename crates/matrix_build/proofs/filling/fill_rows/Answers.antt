@@ -19,8 +19,8 @@ loop-r-init c = (search rules, sym (start_none _ _), write_none _ _ _ _, write_n
 
 pub fill_row-at-requires : goal.fill_row-at-requires
 fill_row-at-requires c =
-    let n = c.args.n in
-    let p : ℕ → ℕ → Bool = stored_by c.args.pairs.now c.args.count in
+    let n = c.args.pairs.now.n in
+    let p : ℕ → ℕ → Bool = stored_by c.args.pairs.now.list.now c.args.pairs.now.count in
     let r = c.loop-r.r in
     let inv = c.loop-r.invariant in
     let f = c.requires.unfilled in
@@ -45,8 +45,8 @@ fill_row-at-requires c =
 pub loop-r-preserved : goal.loop-r-preserved
 unfolding start_of slot_of
 loop-r-preserved c =
-    let n = c.args.n in
-    let p : ℕ → ℕ → Bool = stored_by c.args.pairs.now c.args.count in
+    let n = c.args.pairs.now.n in
+    let p : ℕ → ℕ → Bool = stored_by c.args.pairs.now.list.now c.args.pairs.now.count in
     let r = c.loop-r.r in
     let inv = c.loop-r.invariant in
     let f = c.requires.unfilled in
@@ -60,17 +60,17 @@ loop-r-preserved c =
 
 pub overflow_cast-row_offsets : goal.overflow_cast-row_offsets
 overflow_cast-row_offsets c =
-    let n = c.args.n in
-    let p : ℕ → ℕ → Bool = stored_by c.args.pairs.now c.args.count in
+    let n = c.args.pairs.now.n in
+    let p : ℕ → ℕ → Bool = stored_by c.args.pairs.now.list.now c.args.pairs.now.count in
     let r = c.loop-r.r in
     let inv = c.loop-r.invariant in
     let f = c.requires.unfilled in
     omega (arith, inv.1, start_rise n p r n inv.0, f.slots_small)
 
-pub bounds-row_offsets-n : goal.bounds-row_offsets-n
-bounds-row_offsets-n c =
-    let n = c.args.n in
-    let p : ℕ → ℕ → Bool = stored_by c.args.pairs.now c.args.count in
+pub bounds-row_offsets-pairs : goal.bounds-row_offsets-pairs
+bounds-row_offsets-pairs c =
+    let n = c.args.pairs.now.n in
+    let p : ℕ → ℕ → Bool = stored_by c.args.pairs.now.list.now c.args.pairs.now.count in
     let r = c.loop-r.r in
     let inv = c.loop-r.invariant in
     let f = c.requires.unfilled in
@@ -79,8 +79,8 @@ bounds-row_offsets-n c =
 pub returns : goal.returns
 unfolding starts_of cols_of slots_of
 returns c =
-    let n = c.args.n in
-    let p : ℕ → ℕ → Bool = stored_by c.args.pairs.now c.args.count in
+    let n = c.args.pairs.now.n in
+    let p : ℕ → ℕ → Bool = stored_by c.args.pairs.now.list.now c.args.pairs.now.count in
     let r = c.loop-r.r in
     let inv = c.loop-r.invariant in
     let f = c.requires.unfilled in

@@ -4,26 +4,17 @@ use native.Mathlib.Omega.{arith}
 use borrow.Author.Rules.{rules}
 use Rattle.matrix_shape.specs.Formed.{InRow}
 use Rattle.matrix_shape.specs.Rows.{at, row_end}
-use Rattle.matrix_pinned.proofs.Mirrors.{cross_none, cross_at, cross_more, pinned_is}
+use Rattle.matrix_pinned.proofs.Mirrors.{cross_at, cross_more, pinned_is}
 use Rattle.matrix_pinned.proofs.pinned.make_dirichlet.Goals as goal
-
-pub loop-k-init : goal.loop-k-init
-loop-k-init c =
-    let p = c.requires.pattern in
-    let below = c.requires.row_lt_n in (
-      search rules,
-      omega (arith, p.formed.rise c.args.row below, c.wide-start.ensures.same, c.wide-end.ensures.same),
-      rw c.wide-start.ensures.same (cross_none _ _ _ _ _),
-    )
 
 pub clear_cross-requires : goal.clear_cross-requires
 clear_cross-requires c =
-    let slot : InRow (at c.args.row_offsets.now) c.args.row c.loop-k.k = omega (arith, c.wide-start.ensures.same, c.wide-end.ensures.same) in
+    let slot : InRow (at c.args.pattern.now.row_offsets.now) c.args.row c.loop-k.k = omega (arith, c.wide-start.ensures.same, c.wide-end.ensures.same) in
     cross_at _ _ _ _ c.requires.pattern _ c.requires.row_lt_n _ slot _ (omega (arith, c.requires.n_in_bounds, c.loop-k.invariant.2.long))
 
 pub loop-k-preserved : goal.loop-k-preserved
 loop-k-preserved c =
-    let slot : InRow (at c.args.row_offsets.now) c.args.row c.loop-k.k = omega
+    let slot : InRow (at c.args.pattern.now.row_offsets.now) c.args.row c.loop-k.k = omega
     (arith, c.wide-start.ensures.same, c.wide-end.ensures.same, c.loop-k-test.true) in
     (search rules, search rules, cross_more _ _ _ _ c.requires.pattern _ c.requires.row_lt_n _ c.requires.n_in_bounds _ _ _ slot c.loop-k.invariant.2 c.clear_cross.ensures)
 
@@ -36,5 +27,5 @@ set_block-requires c =
 
 pub returns : goal.returns
 returns c =
-    let e : c.loop-k.k ≡ at c.args.row_offsets.now (c.args.row + 1) = omega (arith, c.wide-end.ensures.same, c.loop-k-test.false, c.loop-k.invariant.1) in
+    let e : c.loop-k.k ≡ at c.args.pattern.now.row_offsets.now (c.args.row + 1) = omega (arith, c.wide-end.ensures.same, c.loop-k-test.false, c.loop-k.invariant.1) in
     pinned_is _ _ _ _ c.requires.pattern _ c.requires.row_lt_n _ c.requires.n_in_bounds _ (rw e at c.loop-k.invariant.2) _ (rw c.wide-slot.ensures.same at c.set_block.ensures)

@@ -1,6 +1,7 @@
+use native.Mathlib.Omega.{arith}
 use mathlib.Core.Path.{ap}
 use mathlib.Core.Bool.{not}
-use mathlib.Core.Path.{sym, ◌∙◌}
+use mathlib.Core.Path.{◌∙◌}
 use Rattle.law.specs.Truth.{passed, refused}
 use Rattle.matrix_shape.specs.Formed.{well_formed, starts_is}
 use Rattle.matrix_shape.specs.Phases.{spread_of}
@@ -11,18 +12,20 @@ pub returns-then-not-starts_ok : goal.returns-then-not-starts_ok
 unfolding well_formed
 returns-then-not-starts_ok c = rw (refused _ _ c.starts_ok.ensures (ap not c.if-not-starts_ok.true))
 
-pub walk_few-requires : goal.walk_few-requires
-walk_few-requires c =
+pub walk_in-requires : goal.walk_in-requires
+walk_in-requires c =
+    (c.if-pattern-le64.true, omega arith, spread_of _ _ _ _ _ c.requires.1 (passed _ _ c.starts_ok.ensures (ap not c.if-not-starts_ok.false)))
+
+pub returns-then-pattern-le64 : goal.returns-then-pattern-le64
+returns-then-pattern-le64 c =
     let t = passed _ _ c.starts_ok.ensures (ap not c.if-not-starts_ok.false) in
-    (c.if-n-le64.true, spread_of _ _ _ _ _ c.requires.1 t, sym (starts_is _ _ _ t).1.1)
+    (rw (starts_is _ _ _ t).1.1 at c.walk_in.ensures) ∙ walk_is _ _ _ _ _ t
 
-pub returns-then-n-le64 : goal.returns-then-n-le64
-returns-then-n-le64 c = c.walk_few.ensures ∙ walk_is _ _ _ _ _ (passed _ _ c.starts_ok.ensures (ap not c.if-not-starts_ok.false))
+pub walk_in-requires-else-pattern-le64 : goal.walk_in-requires-else-pattern-le64
+walk_in-requires-else-pattern-le64 c =
+    (c.requires.0, omega arith, spread_of _ _ _ _ _ c.requires.1 (passed _ _ c.starts_ok.ensures (ap not c.if-not-starts_ok.false)))
 
-pub walk_all-requires : goal.walk_all-requires
-walk_all-requires c =
+pub returns-else-pattern-le64 : goal.returns-else-pattern-le64
+returns-else-pattern-le64 c =
     let t = passed _ _ c.starts_ok.ensures (ap not c.if-not-starts_ok.false) in
-    (c.requires.0, spread_of _ _ _ _ _ c.requires.1 t, sym (starts_is _ _ _ t).1.1)
-
-pub returns : goal.returns
-returns c = c.walk_all.ensures ∙ walk_is _ _ _ _ _ (passed _ _ c.starts_ok.ensures (ap not c.if-not-starts_ok.false))
+    (rw (starts_is _ _ _ t).1.1 at c.walk_in-else-pattern-le64.ensures) ∙ walk_is _ _ _ _ _ t

@@ -1,4 +1,4 @@
-use mathlib.Core.Path.{◌≡◌, refl, ◌∙◌}
+use mathlib.Core.Path.{refl, ◌∙◌}
 use Prim.Native.Nat.{◌+◌, ◌*◌, ◌≤◌, zero-le}
 use native.Mathlib.Omega.{arith}
 use borrow.Author.Rules.{rules}
@@ -30,8 +30,3 @@ loop-r-preserved c =
           (rw (c.row_sum.ensures, c.wide-end.ensures.same, c.loop-r.invariant.1)) room,
       c.set_vector.auto.s ∙ c.loop-r.invariant.3,
     )
-
-pub returns : goal.returns
-returns c =
-    let e : c.loop-r.r ≡ c.args.n = omega arith in
-    rw e at c.loop-r.invariant.2

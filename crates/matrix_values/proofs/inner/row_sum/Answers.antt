@@ -1,5 +1,5 @@
 use borrow.Author.Rules.{rules}
-use Rattle.law.proofs.Loop.{over_none, over_turn, over_done}
+use Rattle.law.proofs.Loop.{over_none, over_turn}
 use Rattle.matrix_values.specs.Product.{row_sum}
 use Rattle.matrix_values.proofs.inner.row_sum.Goals as goal
 
@@ -16,8 +16,3 @@ pub loop-k-preserved : goal.loop-k-preserved
 unfolding row_sum
 loop-k-preserved c =
     (search rules, search rules, over_turn _ _ _ _ _ _ c.loop-k.invariant.0 c.loop-k.invariant.2 c.add_slot-next.ensures)
-
-pub returns : goal.returns
-unfolding row_sum
-returns c =
-    over_done _ _ _ _ _ _ c.loop-k.invariant.2 c.loop-k.invariant.1 c.loop-k-test.false

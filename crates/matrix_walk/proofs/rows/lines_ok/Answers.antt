@@ -17,23 +17,6 @@ use Rattle.matrix_walk.proofs.rows.lines_ok.Goals as goal
 pub loop-r-init : goal.loop-r-init
 loop-r-init c = (zero-le, refl, sym (every_none _ 0), λ j l. absurd (omega arith))
 
-pub bounds-row_offsets-r : goal.bounds-row_offsets-r
-bounds-row_offsets-r c = omega (arith, c.loop-r-test.true, c.requires.spread.held.places)
-
-pub bounds-row_offsets-r-in-loop-r : goal.bounds-row_offsets-r-in-loop-r
-bounds-row_offsets-r-in-loop-r c = omega (
-  arith,
-  c.loop-r-test.true,
-  c.requires.spread.held.places,
-)
-
-pub bounds-diagonal-r : goal.bounds-diagonal-r
-bounds-diagonal-r c = omega (
-  arith,
-  c.loop-r-test.true,
-  c.requires.spread.held.marks,
-)
-
 pub home_ok-requires : goal.home_ok-requires
 home_ok-requires c =
     omega (
@@ -54,11 +37,7 @@ lower_ok-requires c =
     let h = home_is _ _ _ _ _ (passed _ _ c.home_ok.ensures (ap not c.if-not-home_ok.false)) in
     let e = row_end _ _ c.requires.spread.rise c.loop-r.r l in
     record {
-      few = omega (
-        arith,
-        c.requires.count,
-        c.type_inv.row_offsets c.args.n,
-      );
+      few = c.slots-m.ensures.small;
       columns = omega (arith, c.requires.count, c.requires.spread.held.columns);
       order = h.0;
       most = omega (arith, h.1, c.requires.count, e, c.wide-b.ensures.same);
@@ -67,11 +46,11 @@ lower_ok-requires c =
 
 pub returns-then-not-lower_ok : goal.returns-then-not-lower_ok
 returns-then-not-lower_ok c =
-    lined_not _ _ _ _ _ _
+    rw (← c.slots-m.ensures.same) (lined_not _ _ _ _ _ _
     (row_no_pairs _ _ _ _ _ c.loop-r.r c.loop-r-test.true _ _ _ c.wide-a.ensures.same
     c.wide-b.ensures.same
     c.wide-k.ensures.same c.loop-r.next c.loop-r.invariant.3
-    (refused _ _ c.lower_ok.ensures.tells (ap not c.if-not-lower_ok.true)))
+    (refused _ _ c.lower_ok.ensures.tells (ap not c.if-not-lower_ok.true))))
 
 pub overflow_cast-next : goal.overflow_cast-next
 overflow_cast-next c =
@@ -109,5 +88,5 @@ loop-r-preserved c =
 
 pub returns : goal.returns
 returns c =
-    let e : c.loop-r.r ≡ c.args.n = omega (arith, c.loop-r.invariant.0, c.loop-r-test.false) in
-    record { tells = sym (rw e at c.loop-r.invariant.2); stands = λ _ j l. rw e at (c.loop-r.invariant.3 j (omega arith)) }
+    let e : c.loop-r.r ≡ c.args.pattern.now.n = omega (arith, c.loop-r.invariant.0, c.loop-r-test.false) in
+    rw (← c.slots-m.ensures.same) record { tells = sym (rw e at c.loop-r.invariant.2); stands = λ _ j l. rw e at (c.loop-r.invariant.3 j (omega arith)) }

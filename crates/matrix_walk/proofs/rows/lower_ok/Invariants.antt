@@ -8,6 +8,3 @@ use Rattle.matrix_walk.proofs.rows.lower_ok.Given as goal
 abbrev pub invariant-loop-k : goal.invariant-loop-k
 invariant-loop-k l = (l.a ≤ l.k) × (l.k ≤ l.b) × (length l.next ≡ length l.initial.next) × Going l.m (at l.cols) (at l.initial.next) l.r l.b l.k l.ceiling
     (at l.next)
-
-abbrev pub decreases-loop-k : goal.decreases-loop-k
-decreases-loop-k l = l.k

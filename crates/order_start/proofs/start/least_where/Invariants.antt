@@ -1,13 +1,7 @@
-use Prim.Native.Nat.{◌-◌, ◌≤◌}
 use mathlib.Core.Path.{◌≡◌}
-use lib.ListN.{length, take}
-use Rattle.order_definition.specs.Order.{least, passing}
 use Rattle.order_definition.specs.Keys.{key_of, valued}
+use Rattle.order_definition.proofs.Choosing.{best_to}
 use Rattle.order_start.proofs.start.least_where.Given as goal
 
-abbrev pub invariant-loop-k : goal.invariant-loop-k
-invariant-loop-k l = (l.k ≤ length l.list) × (l.best ≤ length l.degrees)
-    × (l.best ≡ least (length l.degrees) (key_of l.degrees) (passing (valued l.vals l.want) (take l.k l.list)))
-
-abbrev pub decreases-loop-k : goal.decreases-loop-k
-decreases-loop-k l = length l.list - l.k
+abbrev pub invariant-loop-w : goal.invariant-loop-w
+invariant-loop-w l = l.best ≡ best_to (key_of l.degrees) (valued l.vals l.want) l.list l.w-index

@@ -6,16 +6,12 @@ use Rattle.plan_fits.proofs.Lists.{plan_of}
 use Rattle.plan_inside.specs.Half.{half_is}
 use Rattle.plan_inside.proofs.inside.fits.Goals as goal
 
-pub returns-then-not-plan_ok : goal.returns-then-not-plan_ok
-unfolding fits_ok
-returns-then-not-plan_ok c = rw (sym c.plan_ok.ensures ∙ c.if-not-plan_ok.true)
+pub rows_ok-requires-clause-placed : goal.rows_ok-requires-clause-placed
+rows_ok-requires-clause-placed c =
+    placed_of _ _ _ _ _ (plan_of _ _ _ _ _ c.requires.laid (sym c.plan_ok.ensures ∙ c.if-plan_ok.true))
 
-pub rows_ok-requires : goal.rows_ok-requires
-rows_ok-requires c =
-    (c.requires.pattern, placed_of _ _ _ _ _ (plan_of _ _ _ _ _ c.requires.laid (sym c.plan_ok.ensures ∙ c.if-not-plan_ok.false)))
-
-pub returns : goal.returns
+pub returns-then-plan_ok : goal.returns-then-plan_ok
 unfolding fits_ok
-returns c =
-    let shown = sym c.plan_ok.ensures ∙ c.if-not-plan_ok.false in
+returns-then-plan_ok c =
+    let shown = sym c.plan_ok.ensures ∙ c.if-plan_ok.true in
     rw (shown, c.rows_ok.ensures) (half_is _ _ _ _ _ c.requires.pattern.formed _ _ _ _ (planned_is _ _ _ _ _ shown))

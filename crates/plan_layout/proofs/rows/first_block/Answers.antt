@@ -1,14 +1,11 @@
-use Rattle.plan_layout.specs.Laid.{laid_walk, laid_started}
+use Rattle.plan_layout.specs.Ordering.{row_within, walk_started}
 use Rattle.plan_layout.proofs.rows.first_block.Goals as goal
 
-pub bounds-order-i : goal.bounds-order-i
-bounds-order-i c =
-    c.requires.1
+pub row-requires : goal.row-requires
+row-requires c = rw c.wide-v.ensures.same (c.args.ordered.now.listed.below c.args.i c.requires)
 
 pub leftmost-requires : goal.leftmost-requires
-leftmost-requires c =
-    rw c.wide.ensures.same (laid_walk _ _ _ _ _ c.requires.0 _ c.requires.1)
+leftmost-requires c = rw (c.row.ensures, c.wide-v.ensures.same) (row_within c.args.ordered.now c.args.i c.requires)
 
 pub returns : goal.returns
-returns c =
-    laid_started _ _ _ _ _ c.requires.0 _ _ c.requires.1 (rw c.wide.ensures.same at c.leftmost.ensures)
+returns c = walk_started c.args.ordered.now c.args.i c.requires _ (rw (c.row.ensures, c.wide-v.ensures.same) at c.leftmost.ensures)

@@ -1,36 +1,17 @@
-use borrow.Author.Rules.{rules}
-use native.Mathlib.Omega.{arith}
-use Rattle.law.proofs.Loop.{over_none, over_turn, over_done}
-use Rattle.plan_layout.specs.Leftmost.{walked}
+use Rattle.std.proofs.Common.{sym, ap, ◌∙◌, arith, ℕ, ◌+◌, drop}
+use Rattle.matrix_shape.specs.Rows.{at}
+use Rattle.plan_layout.specs.Leftmost.{along_row, along_more, along_none}
+use Rattle.plan_layout.proofs.Lesser.{lesser_is}
 use Rattle.plan_layout.proofs.rows.leftmost.Goals as goal
 
-pub loop-k-init : goal.loop-k-init
-loop-k-init c =
-    (omega arith, omega (arith, c.wide-to.ensures.same, c.wide-from.ensures.same, c.requires.rise), over_none _ _ _)
-
-pub bounds-cols-k : goal.bounds-cols-k
-bounds-cols-k c =
-    omega (arith, c.loop-k-test.true, c.wide-to.ensures.same, c.requires.room)
-
-pub bounds-inverse-c : goal.bounds-inverse-c
-bounds-inverse-c c =
-    omega (
-      arith,
-      c.wide-c.ensures.same,
-      c.requires.below c.loop-k.k
-          (omega (arith, c.loop-k-test.true, c.wide-to.ensures.same, c.requires.room)),
-    )
-
-pub loop-k-preserved : goal.loop-k-preserved
-loop-k-preserved c = (
-  search rules,
-  search rules,
-  over_turn _ _ _ _ _ _ c.loop-k.invariant.0 c.loop-k.invariant.2
-      (rw (c.lesser-least.ensures, c.wide.ensures.same, c.wide-c.ensures.same)),
-)
+pub loop-c-preserved : goal.loop-c-preserved
+loop-c-preserved c =
+    let l = c.loop-c in
+    let p = at c.args.inverse.now in
+    ap (λ (b : ℕ). along_row p b (drop (l.c-index + 1) c.args.row.now))
+    (c.min-least.ensures ∙ lesser_is _ _ ∙ rw (c.wide-in-loop-c.ensures.same, c.wide.ensures.same))
+    ∙ sym (along_more p l.least c.args.row.now l.c-index c.loop-c-test.true)
+    ∙ l.invariant
 
 pub returns : goal.returns
-unfolding walked
-returns c =
-    rw (c.wide-from.ensures.same, c.wide-to.ensures.same) at
-    (over_done _ _ _ _ _ _ c.loop-k.invariant.2 c.loop-k.invariant.1 c.loop-k-test.false)
+returns c = sym (along_none _ _ _ c.loop-c.c-index (omega arith)) ∙ c.loop-c.invariant

@@ -1,12 +1,8 @@
 use mathlib.Core.Path.{◌≡◌}
-use Prim.Native.Nat.{◌-◌, ◌≤◌}
-use Rattle.law.specs.Loop.{over}
+use lib.ListN.{drop}
 use Rattle.matrix_shape.specs.Rows.{at}
-use Rattle.order_definition.specs.Envelope.{lesser}
+use Rattle.plan_layout.specs.Leftmost.{along_row}
 use Rattle.plan_layout.proofs.rows.leftmost.Given as goal
 
-abbrev pub invariant-loop-k : goal.invariant-loop-k
-invariant-loop-k l = (l.from ≤ l.k) × (l.k ≤ l.to) × (l.least ≡ over (λ k b. lesser b (at l.inverse (at l.cols k))) l.from l.k l.b)
-
-abbrev pub decreases-loop-k : goal.decreases-loop-k
-decreases-loop-k l = l.to - l.k
+abbrev pub invariant-loop-c : goal.invariant-loop-c
+invariant-loop-c l = along_row (at l.inverse) l.least (drop l.c-index l.row) ≡ along_row (at l.inverse) l.b l.row

@@ -1,34 +1,15 @@
-use mathlib.Core.Path.{◌∙◌}
-use native.Mathlib.Omega.{arith}
-use Rattle.plan_layout.specs.Laid.{laid_long}
-use Rattle.plan_make.specs.Parts.{too_long, firsts_most, laid_out}
+use mathlib.Core.Path.{sym, ◌∙◌}
+use Rattle.plan_layout.specs.Ordering.{inverse_long}
+use Rattle.plan_make.specs.Parts.{firsts_most, laid_out}
 use Rattle.plan_make.proofs.inner.settle.Goals as goal
 
-pub returns-then-len-gt-ENVELOPE : goal.returns-then-len-gt-ENVELOPE
-returns-then-len-gt-ENVELOPE c = too_long _ _ _ c.if-len-gt-ENVELOPE.true
+pub copy_from_slice-requires-2 : goal.copy_from_slice-requires-2
+copy_from_slice-requires-2 c = c.requires.inverse ∙ sym (inverse_long c.args.ordered.now)
 
-pub copy-requires : goal.copy-requires
-copy-requires c =
-    let long = laid_long _ _ _ _ _ c.requires.0 in
-    omega (arith, c.requires.1.order)
-
-pub copy-requires-2 : goal.copy-requires-2
-copy-requires-2 c =
-    let long = laid_long _ _ _ _ _ c.requires.0 in
-    omega (arith, c.requires.1.inverse)
-
-pub fill_first-requires : goal.fill_first-requires
-fill_first-requires c =
-    (c.requires.0, c.requires.1.first)
-
-pub fill_starts-requires : goal.fill_starts-requires
-fill_starts-requires c =
-    let f = c.fill_first in
-    let long = f.auto.first in
-    (record { row_start_len = (omega (arith, long, c.requires.1.first, c.requires.1.rows), omega (arith, long, c.requires.1.first, c.requires.0.few)); by_index = firsts_most _ _ _ _ _ f.ensures })
+pub fill_starts-requires-clause-by_index : goal.fill_starts-requires-clause-by_index
+fill_starts-requires-clause-by_index c = firsts_most _ _ _ _ _ c.fill_first.ensures
 
 pub returns : goal.returns
 returns c =
-    laid_out _ _ _ _ _ _ _ _ _ _ c.if-len-gt-ENVELOPE.false c.copy.ensures (c.copy-2.ensures
-    ∙ c.requires.0.inverse) c.fill_first.ensures
-    c.fill_starts.ensures
+    laid_out _ _ _ _ _ _ _ _ _ _ c.if-len-gt-ENVELOPE.false c.copy_from_slice.ensures.after
+    (c.copy_from_slice-2.ensures.after ∙ c.args.ordered.now.undone) c.fill_first.ensures c.fill_starts.ensures

@@ -19,13 +19,13 @@ passes n o p f s t few = rw t at (quick_is n o p f s few)
 refuses : (n : ℕ) (o p f s : ℕ → ℕ) → (undo_ok n o p && firsts_ok n f) ≡ false → n ≤ particles → false ≡ plan_rules_ok n o p f s
 refuses n o p f s t few = rw t at (quick_is n o p f s few)
 
-pub returns-then-not-ok : goal.returns-then-not-ok
-returns-then-not-ok c = refuses _ _ _ _ _ (rw (c.undoes.ensures, c.firsts_ok.ensures) at c.if-not-ok.true) c.requires.few
-
 pub steps_ok-requires : goal.steps_ok-requires
 steps_ok-requires c = lows_of _ _ _ _ _ c.requires
-    (both (undo_ok _ _ _) _ (rw (c.undoes.ensures, c.firsts_ok.ensures) at c.if-not-ok.false)).1
+    (both (undo_ok _ _ _) _ (rw (c.undoes.ensures, c.firsts_ok.ensures) at c.if-ok.true)).1
 
-pub returns : goal.returns
-returns c = rw c.steps_ok.ensures
-    (passes _ _ _ _ _ (rw (c.undoes.ensures, c.firsts_ok.ensures) at c.if-not-ok.false) c.requires.few)
+pub returns-then-ok : goal.returns-then-ok
+returns-then-ok c = rw c.steps_ok.ensures
+    (passes _ _ _ _ _ (rw (c.undoes.ensures, c.firsts_ok.ensures) at c.if-ok.true) c.requires.few)
+
+pub returns-else-ok : goal.returns-else-ok
+returns-else-ok c = rw c.if-ok.false (refuses _ _ _ _ _ (rw (c.undoes.ensures, c.firsts_ok.ensures) at c.if-ok.false) c.requires.few)

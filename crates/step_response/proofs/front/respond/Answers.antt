@@ -1,5 +1,4 @@
 use mathlib.Core.Path.{sym, ◌∙◌}
-use native.Mathlib.Omega.{arith}
 use Rattle.step_response.specs.Responding.{nothing_left, is_answered}
 use Rattle.step_response.proofs.front.respond.Goals as goal
 
@@ -19,14 +18,8 @@ clear-requires c = c.requires.solvable.iterable.x
 pub clear-requires-2 : goal.clear-requires-2
 clear-requires-2 c = c.requires.solvable.iterable.b
 
-pub overflow_mul-n : goal.overflow_mul-n
-overflow_mul-n c = omega (
-  arith,
-  c.requires.solvable.iterable.few,
-)
-
 pub sweep-requires : goal.sweep-requires
-sweep-requires c = λ d. (c.requires.solvable.planned d).scratch
+sweep-requires c = λ d. (c.requires.solvable.planned (sym c.dense.ensures ∙ d)).scratch
 
 pub clear4-requires : goal.clear4-requires
 clear4-requires c =
@@ -35,5 +28,5 @@ clear4-requires c =
 
 pub returns : goal.returns
 returns c =
-    nothing_left _ _ _ _ _ _ _ _ (sym c.any_free.ensures ∙ c.if-any_free.false) c.clear.ensures c.clear-2.ensures c.sweep.ensures
-    c.clear4.ensures
+    nothing_left _ _ _ _ _ _ _ _ (sym c.any_free.ensures ∙ c.if-any_free.false) c.clear.ensures c.clear-2.ensures
+    (rw c.dense.ensures at c.sweep.ensures) c.clear4.ensures

@@ -1,61 +1,13 @@
-use mathlib.Core.Bool.{not}
-use mathlib.Core.Path.{ap}
-use borrow.Author.Tests.{le-leb, lt-leb}
-use Rattle.law.proofs.Refusals.{goes_on, stops}
-use Rattle.law.specs.Truth.{refused, passed}
+use Rattle.std.proofs.Common.{sym, ◌∙◌, leb-true}
+use Rattle.law.proofs.Refusals.{all_pass}
 use Rattle.step_routes.specs.Dense.{roomy}
 use Rattle.step_entries.specs.Entries.{has_names}
-use Rattle.step_response.specs.Responding.{refusals}
 use Rattle.step_response.proofs.refuse.responding.Goals as goal
 
-pub returns-then-n-gt-PARTICLES : goal.returns-then-n-gt-PARTICLES
-unfolding refusals
-returns-then-n-gt-PARTICLES c =
-    stops _ _ _ (lt-leb _ _ c.if-n-gt-PARTICLES.true)
-
-pub returns-then-count-gt-ENTRIES : goal.returns-then-count-gt-ENTRIES
-unfolding refusals
-returns-then-count-gt-ENTRIES c =
-    goes_on _ _ _ _ (le-leb _ _ c.if-n-gt-PARTICLES.false)
-    (stops _ _ _ (lt-leb _ _ c.if-count-gt-ENTRIES.true))
-
-pub returns-then-not-room : goal.returns-then-not-room
-unfolding refusals
-returns-then-not-room c =
-    goes_on _ _ _ _ (le-leb _ _ c.if-n-gt-PARTICLES.false)
-    (goes_on _ _ _ _ (le-leb _ _ c.if-count-gt-ENTRIES.false)
-    (stops _ _ _ (refused _ _ c.room.ensures (ap not c.if-not-room.true))))
-
-pub returns-then-not-entries_room : goal.returns-then-not-entries_room
-unfolding refusals
-returns-then-not-entries_room c =
-    goes_on _ _ _ _ (le-leb _ _ c.if-n-gt-PARTICLES.false)
-    (goes_on _ _ _ _ (le-leb _ _ c.if-count-gt-ENTRIES.false)
-    (goes_on _ _ _ _ (passed _ _ c.room.ensures (ap not c.if-not-room.false))
-    (stops _ _ _ (refused _ _ c.entries_room.ensures (ap not c.if-not-entries_room.true)))))
-
 pub all_below-requires : goal.all_below-requires
-all_below-requires c = has_names _ _ _ _ _ (passed _ _ c.entries_room.ensures (ap not c.if-not-entries_room.false))
-
-pub returns-then-not-all_below : goal.returns-then-not-all_below
-unfolding refusals
-returns-then-not-all_below c =
-    goes_on _ _ _ _ (le-leb _ _ c.if-n-gt-PARTICLES.false)
-    (goes_on _ _ _ _ (le-leb _ _ c.if-count-gt-ENTRIES.false)
-    (goes_on _ _ _ _ (passed _ _ c.room.ensures (ap not c.if-not-room.false))
-    (goes_on _ _ _ _ (passed _ _ c.entries_room.ensures (ap not c.if-not-entries_room.false))
-    (stops _ _ _ (refused _ _ c.all_below.ensures (ap not c.if-not-all_below.true))))))
+all_below-requires c = has_names _ _ _ _ _ (sym c.has_room.ensures ∙ (all_pass _ c.in_ok-ensure-4.ensures).0)
 
 pub later-requires : goal.later-requires
 later-requires c =
-    roomy _ _ _ _ _ _ _ _ _ _ _ _ _ _ _ _ _ _ _ c.if-n-gt-PARTICLES.false (passed _ _ c.room.ensures (ap not c.if-not-room.false))
-
-pub returns : goal.returns
-unfolding refusals
-returns c =
-    goes_on _ _ _ _ (le-leb _ _ c.if-n-gt-PARTICLES.false)
-    (goes_on _ _ _ _ (le-leb _ _ c.if-count-gt-ENTRIES.false)
-    (goes_on _ _ _ _ (passed _ _ c.room.ensures (ap not c.if-not-room.false))
-    (goes_on _ _ _ _ (passed _ _ c.entries_room.ensures (ap not c.if-not-entries_room.false))
-    (goes_on _ _ _ _ (passed _ _ c.all_below.ensures (ap not c.if-not-all_below.false))
-    c.later.ensures))))
+    roomy _ _ _ _ _ _ _ _ _ _ _ _ _ _ _ _ _ _ _ (leb-true _ _ (all_pass _ c.in_ok-ensure.ensures).0)
+    (sym c.room.ensures ∙ (all_pass _ c.in_ok-ensure-3.ensures).0)
