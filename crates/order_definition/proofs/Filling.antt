@@ -18,6 +18,12 @@ store_next {A} f b i x e lt =
     ∙ set_at f (get_or b i x) (drop (suc i) b) x i e
     ∙ sym (lib.Seq.append_snoc f x (drop (suc i) b))
 
+-- a list is stored from its front on
+pub store_copy : (s b : List ℕ) (i : ℕ) → i < length b → length s ≡ length b → set (take i s ++ drop i b) i (get_or s i 0) ≡ take (suc i) s ++ drop (suc i) b
+store_copy s b i lt e =
+    store_next (take i s) b i (get_or s i 0) (length-take-le i s (omega arith)) lt
+    ∙ ap {B = List ℕ} (λ t. t ++ drop (suc i) b) (sym (take-suc s i 0 (omega arith)))
+
 pub passing_append : (t : ℕ → Bool) (l m : List ℕ) → passing t (l ++ m) ≡ passing t l ++ passing t m
 passing_append t [] m = refl
 passing_append t (x ∷ l) m = go (t x) (passing_append t l m)

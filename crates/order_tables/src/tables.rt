@@ -38,11 +38,12 @@ pub fn mark_all(list: &[u32], mark: &mut [u32])
     }
 }
 
-// The list from its end.
+// The list from its end. Place by place: the library's copy asks C for a memmove, which the archives do without.
 pub fn reverse_into(from: &[u32], into: &mut [u32])
     requires { length from.now ≡ length into.old }
     ensures { into.new ≡ reverse from.now }
 {
-    into.copy_from_slice(from);
-    into.reverse();
+    for i in 0..into.len() {
+        into[i] = from[from.len() - 1 - i];
+    }
 }

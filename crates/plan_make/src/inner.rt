@@ -51,8 +51,8 @@ fn settle(
     if law::ENVELOPE < len {
         return;
     }
-    perm.copy_from_slice(ordered.order);
-    inv_perm.copy_from_slice(ordered.inverse);
+    tables::copy(ordered.order, perm);
+    tables::copy(ordered.inverse, inv_perm);
     rows::fill_first(ordered, first);
     rows::fill_starts(first, row_start);
 }

@@ -1,6 +1,6 @@
 -- A list of vectors, part by part: a vector is its two numbers, and a list that holds every part is the mix of them.
 use Rattle.std.specs.Prelude.{ℕ, zero, suc, ◌+◌, ◌*◌, ◌≤◌, ◌<◌, List, [], ◌∷◌, ◌++◌, ◌≡◌, refl, length, get_or, drop, take, replicate, Float}
-use Rattle.std.proofs.Common.{arith, ◌∙◌, add-zero, length-append, length-drop, length-take-le, get_or-take}
+use Rattle.std.proofs.Common.{arith, ◌∙◌, add-zero, length-append, length-drop, length-take-le}
 use Rattle.std.proofs.Math.ListN.{get_or-append}
 use Rattle.std.proofs.lemmas.List.{length-replicate, get_or-replicate}
 use Rattle.std.proofs.lemmas.Slice.{drop-append-drop}
@@ -33,10 +33,6 @@ front_of f long n p l e room h =
         number zero less = rw (add-zero, ← h j g)
         number (suc zero) less = rw (← h j g)
         number (suc (suc i)) less = absurd (omega arith)
-
-pub copied : (n : ℕ) (s l : List Float) → 2 * n ≤ length s → 2 * n ≤ length l → take (2 * n) s ++ drop (2 * n) l ≡ mix 2 n (vector_at s) l
-copied n s l more room =
-    front_of (vector_at s) (λ j. refl) n (take (2 * n) s) l (length-take-le (2 * n) s more) room (λ j h. rw (get_or-take (2 * n) s (2 * j) nan (omega arith), get_or-take (2 * n) s (2 * j + 1) nan (omega arith)))
 
 pub cleared : (n : ℕ) (l : List Float) → 2 * n ≤ length l → replicate (length (take (2 * n) l)) zero32 ++ drop (2 * n) l ≡ mix 2 n (λ k. zero_of) l
 cleared n l room =

@@ -82,11 +82,19 @@ pub fn lack(n: usize, b: &[f32], r: &mut [f32])
     );
 }
 
+// Part by part: the library's copy asks C for a memmove, which the archives do without.
 pub fn copy(n: usize, s: &[f32], t: &mut [f32])
     requires { (2 * n ≤ length s.now) × (2 * n ≤ length t.old) }
     ensures { t.new ≡ mix 2 n (vector_at s.now) t.old }
 {
-    t[..2 * n].copy_from_slice(&s[..2 * n]);
+    each(
+        n,
+        t,
+        |k, _|
+            requires { 2 * k + 1 < length s.now }
+            ensures { result ≡ vector_at s.entry.now k }
+        { vector_at(s, k) },
+    );
 }
 
 pub fn clear(n: usize, x: &mut [f32])
