@@ -38,7 +38,9 @@ fn row_sum(cols: &[u32], blocks: &[f32], x: &[f32], a: usize, b: usize) -> Vecto
     sum
 }
 
-// The matrix times x. A row ends where the next one starts. A loop by r: `out` is written two places at a time.
+// The matrix times x. A row ends where the next one starts. A loop by r: `out` is written two places at a time. Never inlined: within the gradient's turn
+// the jumps of its two loops could come to lie so close that none told the end of a row from its middle, and rows of three slots took twice as long.
+#[inline(never)]
 pub fn mul(pattern: &Pattern, blocks: &[f32], x: &[f32], out: &mut [f32])
     requires rows { Rows pattern.now.n pattern.now.row_offsets.now pattern.now.cols.now }
     requires n_in_bounds { (4 * at pattern.now.row_offsets.now pattern.now.n ≤ length blocks.now) × (2 * pattern.now.n ≤ length x.now) × (2 * pattern.now.n ≤ length out.old) }
@@ -46,10 +48,12 @@ pub fn mul(pattern: &Pattern, blocks: &[f32], x: &[f32], out: &mut [f32])
         (product_at pattern.now.row_offsets.now pattern.now.cols.now blocks.now x.now)
         out.old }
 {
-    let mut start = law::wide(pattern.row_offsets[0]);
+    let row_offsets = pattern.row_offsets;
+    let cols = pattern.cols;
+    let mut start = law::wide(row_offsets[0]);
     for r in 0..pattern.n {
-        let end = law::wide(pattern.row_offsets[r + 1]);
-        vectors::inner::set_vector(out, r, row_sum(pattern.cols, blocks, x, start, end));
+        let end = law::wide(row_offsets[r + 1]);
+        vectors::inner::set_vector(out, r, row_sum(cols, blocks, x, start, end));
         start = end;
     }
 }
