@@ -9,44 +9,16 @@ ghost use Rattle.columns_make.specs.Making as making;
 ghost use Rattle.columns_combine.specs.Combining as combining;
 ghost use Rattle.columns_block.specs.Blocking as blocking;
 
-use columns_combine::Combined;
-use columns_make::Ended;
+use abi_columns_answers::block::Shown;
+use abi_columns_answers::combined::Gained;
+use abi_columns_answers::computed;
 use columns_table::table::Table;
 use gradient_definition::Settings;
 use matrix_shape::pattern::Pattern;
 use plan_fits::plan::Plan;
-use plane::Block;
 use step_entries::entries::Entries;
 use step_routes::system::System;
 use step_tally::Tally;
-
-fn endings(ended: Ended) -> [u32; 6] {
-    [
-        ended.direct,
-        ended.zero,
-        ended.near,
-        ended.converged,
-        ended.curvature,
-        ended.limit,
-    ]
-}
-
-// The gain, and which case it is.
-fn told(combined: Combined) -> (f32, u32) {
-    match combined {
-        Combined::Gain(gain) => (gain, 0),
-        Combined::Nothing => (0.0, 6),
-        Combined::NotLoaded => (0.0, 7),
-    }
-}
-
-// Which case it is, and the block's four numbers.
-fn numbers(block: Option<Block>) -> (u32, [f32; 4]) {
-    match block {
-        Some(m) => (0, [m[0][0], m[0][1], m[1][0], m[1][1]]),
-        None => (7, [0.0, 0.0, 0.0, 0.0]),
-    }
-}
 
 #[unsafe(no_mangle)]
 pub extern "C" fn inside_compute_columns(
@@ -126,7 +98,7 @@ pub extern "C" fn inside_compute_columns(
         &mut tally,
     );
     *counts = <[u32; 7]>::from(tally);
-    *ended = endings(made);
+    *ended = computed::after(*ended, Ok(made));
 }
 
 #[unsafe(no_mangle)]
@@ -156,9 +128,14 @@ pub extern "C" fn inside_response_from_columns(
         particles,
         gradients,
     };
-    let (sum, case) = told(columns_combine::combine::combine(n, &table, columns, &listed, out));
-    *gain = sum;
-    *how = case;
+    let combined = columns_combine::combine::combine(n, &table, columns, &listed, out);
+    let before = Gained {
+        gain: *gain,
+        how: *how,
+    };
+    let after = before.after(Ok(combined));
+    *gain = after.gain;
+    *how = after.how;
 }
 
 #[unsafe(no_mangle)]
@@ -180,7 +157,14 @@ pub extern "C" fn inside_particle_block(
         loaded,
         column_of,
     };
-    let (case, four) = numbers(columns_block::block::block(n, &table, columns, particle, out));
-    *how = case;
+    let shown = columns_block::block::block(n, &table, columns, particle, out);
+    let held = *block;
+    let before = Shown {
+        how: *how,
+        block: held,
+    };
+    let after = before.after(Ok(shown));
+    let four = after.block;
+    *how = after.how;
     *block = four;
 }

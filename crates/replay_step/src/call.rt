@@ -10,7 +10,8 @@ pub trait Call {
 
     const TO_SOLUTION: u8;
 
-    const TO_SCRATCH: u8;
+    fn to_scratch() -> usize
+        ensures { result ≤ 15 };
 
     fn call(
         w: &[u32],

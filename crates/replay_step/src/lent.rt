@@ -20,7 +20,7 @@ fn turned<C: Call>(
     ensures { result ≤ room }
 {
     let at = usize::from(C::PLAINS);
-    let lists = usize::from(C::TO_SCRATCH);
+    let lists = C::to_scratch();
     let mut direction = [0f32; LONGEST];
     let mut a_direction = [0f32; LONGEST];
     let mut z = [0f32; LONGEST];
@@ -34,7 +34,7 @@ fn started<C: Call>(w: &[u32], line: &[f32], out: &mut Room) -> usize
     ensures { result ≤ room }
 {
     let at = usize::from(C::PLAINS);
-    let lists = usize::from(C::TO_SCRATCH);
+    let lists = C::to_scratch();
     let mut solution = [0f32; LONGEST];
     let mut scratch = [0f32; LONGEST];
     let mut residual = [0f32; LONGEST];

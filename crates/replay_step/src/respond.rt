@@ -121,7 +121,9 @@ impl Call for Response {
 
     const TO_SOLUTION: u8 = 13;
 
-    const TO_SCRATCH: u8 = 15;
+    fn to_scratch() -> usize {
+        15
+    }
 
     fn call(
         w: &[u32],

@@ -67,7 +67,9 @@ impl Call for Step {
 
     const TO_SOLUTION: u8 = 11;
 
-    const TO_SCRATCH: u8 = 12;
+    fn to_scratch() -> usize {
+        12
+    }
 
     fn call(
         w: &[u32],

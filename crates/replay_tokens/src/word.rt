@@ -1,6 +1,6 @@
 // The tokens of a line: after the operation's word each is a space and a number, either x and a float's bits as eight digits
 // in base 16 or a whole number in base 10.
-ghost use Rattle.std.specs.Prelude.{◌≤◌, length, IfSome};
+ghost use Rattle.std.specs.Prelude.{◌≡◌, ◌+◌, ◌*◌, ◌≤◌, ◌<◌, length, IfSome};
 
 // The first space at or after `from`, or the line's end.
 pub fn gap(line: &[u8], from: usize) -> usize
@@ -16,7 +16,9 @@ pub fn gap(line: &[u8], from: usize) -> usize
 }
 
 // A digit's value in base 10 or 16. Std's to_digit would take capitals too.
-fn digit(b: u8, base: u32) -> Option<u32> {
+fn digit(b: u8, base: u32) -> Option<u32>
+    ensures { IfSome result (λ value. (value < base) × (value < 16)) }
+{
     let value = match b {
         b'0'..=b'9' => u32::from(b - b'0'),
         b'a'..=b'f' => u32::from(b - b'a') + 10,
@@ -25,11 +27,18 @@ fn digit(b: u8, base: u32) -> Option<u32> {
     if value < base { Some(value) } else { None }
 }
 
+// The number with one digit more at its end.
+fn shifted(value: u32, base: u32, last: u32) -> Option<u32>
+    ensures { IfSome result (λ more. more ≡ value * base + last) }
+{
+    value.checked_mul(base)?.checked_add(last)
+}
+
 // A number of 32 bits, of such digits alone.
 fn number(text: &[u8], base: u32) -> Option<u32> {
     let mut value = 0u32;
     for b in text {
-        value = value.checked_mul(base)?.checked_add(digit(*b, base)?)?;
+        value = shifted(value, base, digit(*b, base)?)?;
     }
     Some(value)
 }
